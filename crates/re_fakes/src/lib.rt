@@ -1,0 +1,2 @@
+//! A world in memory, for tests.
+#![tactic(auto)]

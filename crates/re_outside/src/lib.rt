@@ -1,0 +1,2 @@
+//! What a run meets outside.
+#![tactic(auto)]
