@@ -1,1 +1,6 @@
+pub mod Arithmetic
 pub mod Listed
+pub mod Meaning
+pub mod Plain
+pub mod Signal
+pub mod World

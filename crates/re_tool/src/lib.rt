@@ -1,0 +1,2 @@
+//! The top call: the words of a command line and a stream of bytes come in, answers go out.
+#![tactic(auto)]
