@@ -1,0 +1,123 @@
+-- Steps one behind the other.
+use Rattle.std.proofs.Common.{arith, ℕ, ◌≡◌, ◌+◌, ◌≤◌, List, [], ◌∷◌, ◌++◌, take, drop, sym, ◌∙◌, ap, subst, refl, append_assoc}
+use Rattle.std.proofs.lemmas.List.{append-nil, take-append-drop, take-take, drop-take}
+use Rattle.re_outside.specs.Listed.{plain}
+use Rattle.re_outside.specs.Outside.{said, Faults, none, output_fault, plus, Seen, Counts, Moves, Does, Breaks, IsAtEnd}
+use Rattle.re_outside.specs.declared.step.Step.{Step}
+use Rattle.re_outside.specs.declared.step.Step.TheVariants.{Write, Cut, Sync, Say, Fail}
+
+-- what two parts say is what they say one behind the other
+pub said-append : (xs ys : List Step) → said (xs ++ ys) ≡ said xs ++ said ys
+said-append [] ys = refl
+said-append (Say bytes ∷ xs) ys = ap (λ t. bytes.items ++ t) (said-append xs ys) ∙ sym (append_assoc bytes.items (said xs) (said ys))
+said-append (Write device file at bytes ∷ xs) ys = said-append xs ys
+said-append (Cut device file length ∷ xs) ys = said-append xs ys
+said-append (Sync device file ∷ xs) ys = said-append xs ys
+said-append (Fail call device file at bytes content ∷ xs) ys = said-append xs ys
+
+-- a count over two parts
+counts-trans : (f g a b c : ℕ) → Counts f a b → Counts g b c → Counts (f + g) a c
+counts-trans f g a b c p q = (λ h. omega (arith, p.0, q.0), omega (arith, p.1, q.1))
+
+-- one move behind the other is a move
+pub moves-trans : (a b c : Seen) (r r' : List ℕ) (s s' : List Step) (f g : Faults) → Moves a b r s f → Moves b c r' s' g → Moves a c (r ++ r') (s ++ s') (plus f g)
+moves-trans a b c r r' s s' f g p q = record {
+  told = q.told ∙ p.told;
+  left = λ t. p.left t ∙ ap (λ l. r ++ l) (q.left (p.told ∙ t)) ∙ sym (append_assoc r r' c.left);
+  start = λ t. q.start (p.told ∙ t) ∙ p.start t;
+  trace = λ t. q.trace (p.told ∙ t) ∙ ap (λ l. l ++ s') (p.trace t) ∙ append_assoc a.trace s s';
+  input_faults = counts-trans f.input g.input _ _ _ p.input_faults q.input_faults;
+  output_faults = counts-trans f.output g.output _ _ _ p.output_faults q.output_faults;
+}
+
+-- a count that nothing raises
+stays : (n : ℕ) → Counts 0 n n
+stays n = (λ h. refl, omega arith)
+
+-- nothing is done
+pub does-nil : (a : Seen) → Does a a [] [] none
+does-nil a = record {
+  steps = [];
+  says = refl;
+  moves = record {
+    told = refl;
+    left = λ t. refl;
+    start = λ t. refl;
+    trace = λ t. sym (append-nil a.trace);
+    input_faults = stays _;
+    output_faults = stays _;
+  };
+}
+
+-- one part behind the other
+pub does-trans : (a b c : Seen) (r r' t t' : List ℕ) (f g : Faults) → Does a b r t f → Does b c r' t' g → Does a c (r ++ r') (t ++ t') (plus f g)
+does-trans a b c r r' t t' f g p q = record {
+  steps = p.steps ++ q.steps;
+  says = said-append p.steps q.steps ∙ ap (λ l. l ++ said q.steps) p.says ∙ ap (λ l. t ++ l) q.says;
+  moves = moves-trans a b c r r' p.steps q.steps f g p.moves q.moves;
+}
+
+-- no fault more
+pub plus-none : (f : Faults) → plus f none ≡ f
+plus-none f = grind arith
+
+-- no fault before
+pub none-plus : (f : Faults) → plus none f ≡ f
+none-plus f = grind arith
+
+-- a call took these bytes
+pub does_take : (a b : Seen) (r : List ℕ) → Moves a b r [] none → Does a b r [] none
+does_take a b r p = record { steps = []; says = refl; moves = p }
+
+-- a call said these bytes
+pub does_say : (a b : Seen) (t : List ℕ) → Moves a b [] (Say (plain t) ∷ []) none → Does a b [] t none
+does_say a b t p = record { steps = Say (plain t) ∷ []; says = append-nil t; moves = p }
+
+-- the first bytes and those behind them are the first of both together
+take_two : (n m : ℕ) (bytes : List ℕ) → take n bytes ++ take m (drop n bytes) ≡ take (n + m) bytes
+take_two n m bytes =
+    let e : n ≤ n + m = omega arith in
+    ap (λ l. l ++ take m (drop n bytes)) (sym (take-take n (n + m) bytes e))
+    ∙ ap (λ l. take n (take (n + m) bytes) ++ l) (sym (drop-take n m bytes))
+    ∙ take-append-drop n (take (n + m) bytes)
+
+-- text is said behind what was done
+pub does_behind : (a b c : Seen) (r t t' : List ℕ) (f g : Faults) → Does a b r t f → Does b c [] t' g → Does a c r (t ++ t') (plus f g)
+does_behind a b c r t t' f g p q = subst (λ x. Does a c x (t ++ t') (plus f g)) (append-nil r) (does-trans a b c r [] t t' f g p q)
+
+-- the same without a fault
+pub does_well : (a b c : Seen) (r t t' : List ℕ) (f : Faults) → Does a b r t f → Does b c [] t' none → Does a c r (t ++ t') f
+does_well a b c r t t' f p q = subst (Does a c r (t ++ t')) (plus-none f) (does_behind a b c r t t' f none p q)
+
+-- bytes are read behind what was done
+pub does_read : (a b c : Seen) (r r' t : List ℕ) (f g : Faults) → Does a b r t f → Does b c r' [] g → Does a c (r ++ r') t (plus f g)
+does_read a b c r r' t f g p q = subst (λ x. Does a c (r ++ r') x (plus f g)) (append-nil t) (does-trans a b c r r' t [] f g p q)
+
+-- n bytes were said, and m more
+pub said_more : (a b c : Seen) (n m : ℕ) (bytes : List ℕ) → Does a b [] (take n bytes) none → Moves b c [] (Say (plain (take m (drop n bytes))) ∷ []) none → Does a c [] (take (n + m) bytes) none
+said_more a b c n m bytes p q = subst (λ t. Does a c [] t none) (take_two n m bytes) (does_well a b c [] (take n bytes) (take m (drop n bytes)) none p (does_say b c _ q))
+
+-- n bytes were said, and then a call failed
+pub broke : (a b c : Seen) (n : ℕ) (bytes : List ℕ) → Does a b [] (take n bytes) none → Does b c [] [] output_fault → Breaks a c bytes none
+broke a b c n bytes p q = record {
+  front = take n bytes;
+  rest = drop n bytes;
+  whole = sym (take-append-drop n bytes);
+  does = subst (λ t. Does a c [] t output_fault) (append-nil (take n bytes)) (does_behind a b c [] (take n bytes) [] none output_fault p q);
+}
+
+-- the end stays the end
+pub at_end : (a b : Seen) (t : List ℕ) (f : Faults) → Does a b [] t f → IsAtEnd a → IsAtEnd b
+at_end a b t f p e = λ q. sym (p.moves.left (sym p.moves.told ∙ q)) ∙ e (sym p.moves.told ∙ q)
+
+-- the same in other words
+pub does_as : (a b : Seen) (r t t' : List ℕ) (f f' : Faults) → Does a b r t f → t ≡ t' → f ≡ f' → Does a b r t' f'
+does_as a b r t t' f f' p e q = record {
+  steps = p.steps;
+  says = p.says ∙ e;
+  moves = subst (Moves a b r p.steps) q p.moves;
+}
+
+-- faults of three parts
+pub plus-assoc : (f g h : Faults) → plus (plus f g) h ≡ plus f (plus g h)
+plus-assoc f g h = grind arith
