@@ -1,1 +1,4 @@
 pub mod Built
+pub mod Clipped
+pub mod Lines
+pub mod Reads

@@ -1,7 +1,7 @@
 -- What one call of the reader does.
 use Rattle.std.specs.Prelude.{ℕ, ◌≡◌, ◌≤◌, ◌+◌, ◌<◌, Bool, true, false, List, [], ◌∷◌, ◌++◌, Result, Ok, Err, length, take}
 use Rattle.std.specs.declared.alloc.AllocError.{AllocError}
-use Rattle.re_outside.specs.declared.outside.Failed.{Failed}
+use Rattle.re_outside.specs.declared.step.Failed.{Failed}
 use Rattle.re_outside.specs.Outside.{Seen, Does, Faults, IsAtEnd, none, input_fault}
 use Rattle.re_tool.specs.declared.reader.Reader.{Reader}
 use Rattle.re_tool.specs.declared.reader.Next.{Next}

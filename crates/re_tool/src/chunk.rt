@@ -3,40 +3,38 @@ ghost use Rattle.std.specs.Prelude.{◌≡◌, ◌≤◌, ◌<◌, [], ◌∷◌
 ghost use Rattle.re_outside.specs.Outside.{Does, IsAtEnd, none, input_fault};
 
 use re_outside::{Failed, Outside};
-use std::alloc::{AllocError, Global};
 use std::marker::Model;
 
-const SIZE: usize = 65536;
+const SIZE: usize = 16384;
 
 /// A piece of the input, of which contracts see the bytes that are still ahead.
 #[derive(Drop)]
 pub struct Chunk {
-    bytes: Vec<u8>,
+    bytes: [u8; 16384],
     at: usize,
     end: usize,
 }
 
 impl Model for Chunk {
-    ghost use Rattle.std.specs.Prelude.{List, ℕ, take, drop, ◌≤◌, ◌≡◌};
-    ghost use Rattle.std.proofs.Common.{vec_len};
+    ghost use Rattle.std.specs.Prelude.{List, ℕ, take, drop, ◌≤◌};
 
     ghost Value = { List ℕ };
 
-    ghost view = { λ c. drop c.at (take c.end c.bytes.items) };
+    ghost view = { λ c. drop c.at (take c.end c.bytes) };
 
-    ghost invariant = { λ c. (c.at ≤ c.end) × (c.end ≤ 65536) × (vec_len c.bytes ≡ 65536) };
+    ghost invariant = { λ c. (c.at ≤ c.end) × (c.end ≤ 16384) };
 }
 
 impl Chunk {
-    /// No bytes ahead. The one refusal is want of memory.
-    pub fn new(alloc: Global) -> Result<Chunk, AllocError>
-        ensures { IfOk result (λ chunk. chunk ≡ []) }
+    /// No bytes ahead.
+    pub fn new() -> Chunk
+        ensures { result ≡ [] }
     {
-        Ok(Chunk {
-            bytes: vec![in alloc; 0u8; SIZE]?,
+        Chunk {
+            bytes: [0; 16384],
             at: 0,
             end: 0,
-        })
+        }
     }
 
     /// The next byte, where one is ahead.

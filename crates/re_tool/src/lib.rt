@@ -1,2 +1,6 @@
 //! The top call: the words of a command line and a stream of bytes come in, answers go out.
 #![tactic(auto)]
+
+mod chunk;
+mod line;
+mod reader;

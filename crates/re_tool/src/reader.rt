@@ -1,11 +1,11 @@
 //! Reads lines of an input that comes in chunks, in constant memory.
-ghost use Rattle.std.specs.Prelude.{◌≡◌, ◌≤◌, [], IfOk};
+ghost use Rattle.std.specs.Prelude.{◌≡◌, ◌≤◌, []};
 ghost use Rattle.re_tool.specs.Reads.{ScanGives, RefillGives, NextGives, limit};
 
 use crate::chunk::Chunk;
 use crate::line::Line;
 use re_outside::{Failed, Outside};
-use std::alloc::{AllocError, Global};
+use std::alloc::AllocError;
 
 /// How many bytes of input may be taken.
 const LIMIT: usize = 16777216;
@@ -45,14 +45,14 @@ enum Refill {
 }
 
 impl Reader {
-    /// Before the first byte. The one refusal is want of memory.
-    pub fn new(alloc: Global) -> Result<Reader, AllocError>
-        ensures { IfOk result (λ reader. reader ≡ record { chunk = []; taken = 0 }) }
+    /// Before the first byte.
+    pub fn new() -> Reader
+        ensures { result ≡ record { chunk = []; taken = 0 } }
     {
-        Ok(Reader {
-            chunk: Chunk::new(alloc)?,
+        Reader {
+            chunk: Chunk::new(),
             taken: 0,
-        })
+        }
     }
 
     /// Passes over bytes up to an LF, and says whether there was one.
@@ -96,8 +96,11 @@ impl Reader {
         ensures { NextGives self.old self.new line.new line.old.most (O.seen out.old) (O.seen out.new) result }
     {
         line.clear();
-        loop {
-            if self.scan(line).map_err(|_| Halt::Memory)? {
+        'pieces: loop {
+            let Ok(found) = self.scan(line) else {
+                return Err(Halt::Memory);
+            };
+            if found {
                 return Ok(Next::Line);
             }
             match self.refill(out) {
