@@ -106,3 +106,56 @@ impl Step {
         })
     }
 }
+
+#[cfg(test)]
+mod tests {
+    use super::*;
+    use std::test::Fail;
+
+    #[test]
+    fn copies_equal_their_sources(rt: HostRuntime) -> Result<(), Fail> {
+        let mut bytes = Bytes::with_capacity(rt.alloc(), 2)?;
+        bytes.reserve(3)?;
+        bytes.push(1)?;
+        bytes.insert(0, 2)?;
+        bytes.push(3)?;
+        bytes.set(2, 4);
+        assert_eq!(rt; bytes.remove(1), 1);
+        bytes.truncate(2);
+        assert_eq!(rt; bytes.get(1), Some(&4));
+        let fail = Step::Fail {
+            call: Call::Write,
+            device: 1,
+            file: 0,
+            at: 7,
+            bytes: bytes.copy(rt.alloc())?,
+            content: Bytes::from_slice(rt.alloc(), b"old".as_slice())?,
+        };
+        let copied = fail.copy(rt.alloc())?;
+        if let Step::Fail {
+            call,
+            at,
+            bytes,
+            content,
+            ..
+        } = &copied
+        {
+            assert_eq!(rt; *call, Call::Write);
+            assert_eq!(rt; *at, 7);
+            assert_eq!(rt; bytes.as_slice(), [2, 4].as_slice());
+            assert_eq!(rt; content.as_slice(), b"old".as_slice());
+        }
+        assert!(rt;
+            matches!(
+                copied,
+                Step::Fail {
+                    device: 1,
+                    file: 0,
+                    ..
+                }
+            )
+        );
+        assert!(rt; Bytes::from_vec(Vec::new(rt.alloc())).is_empty());
+        Ok(())
+    }
+}
