@@ -1,1 +1,4 @@
 pub mod Built
+pub mod Commands
+pub mod Grammar
+pub mod Tokens
