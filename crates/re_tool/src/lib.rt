@@ -4,3 +4,5 @@
 mod chunk;
 mod line;
 mod reader;
+pub mod command;
+pub mod tokens;

@@ -1,0 +1,224 @@
+-- The programs that can be read so far.
+use Rattle.std.specs.Prelude.{ℕ, ℤ, pos, ◌-ℤ◌, ◌==◌, ◌&&◌, ◌||◌, not, Bool, true, false, if◌then◌else◌, List, [], ◌∷◌, ◌++◌, length, map, nat_lt, nat_le, slice_get, count_by, position, Option, Some, None, option_and_then, option_map, is_some}
+use Rattle.std.specs.Str.{bytes_eq}
+use Rattle.re_terms.specs.Arithmetic.{is_word_number, bool_eq}
+use Rattle.re_terms.specs.Listed.{plain}
+use Rattle.re_terms.specs.declared.word.Word.TheVariants as word
+use Rattle.re_terms.specs.declared.word.Kind.TheVariants as kind
+use Rattle.re_terms.specs.declared.expr.Op.TheVariants as op
+use Rattle.re_terms.specs.declared.expr.Expr.{Expr}
+use Rattle.re_terms.specs.declared.expr.Expr.TheVariants as expr
+use Rattle.re_terms.specs.declared.program.Body.{Body}
+use Rattle.re_terms.specs.declared.program.Body.TheVariants as body
+use Rattle.re_terms.specs.declared.program.Decl.{Decl}
+use Rattle.re_terms.specs.declared.program.Program.{Program}
+use Rattle.re_tool.specs.Tokens.{Mark, Number, Name, Reserved, Sign, marks_of}
+
+infixl 10 ◌>>=◌
+abbrev pub ◌>>=◌ : {A B : Type 0} → Option A → (A → Option B) → Option B
+o >>= f = option_and_then f o
+
+-- the value where a test holds of it
+abbrev pub only_if : {A : Type 0} → Bool → A → Option A
+only_if holds x = if holds then Some x else None
+
+abbrev pub is_sign : ℕ → Mark → Bool
+is_sign place (Sign other) = other == place
+is_sign place mark = false
+
+abbrev pub is_reserved : ℕ → Mark → Bool
+is_reserved place (Reserved other) = other == place
+is_reserved place mark = false
+
+-- the places of `;`, `:`, `=`, `+` and `-` among the signs
+abbrev pub semicolon : ℕ
+semicolon = 0
+
+abbrev pub colon : ℕ
+colon = 1
+
+abbrev pub equals : ℕ
+equals = 2
+
+abbrev pub plus : ℕ
+plus = 6
+
+abbrev pub minus : ℕ
+minus = 7
+
+-- the places of `device`, `var`, `signal` and `int` among the reserved words
+abbrev pub device_word : ℕ
+device_word = 0
+
+abbrev pub var_word : ℕ
+var_word = 2
+
+abbrev pub signal_word : ℕ
+signal_word = 4
+
+abbrev pub int_word : ℕ
+int_word = 30
+
+abbrev pub is_device : Body → Bool
+is_device body.Device = true
+is_device b = false
+
+abbrev pub is_var : Body → Bool
+is_var (body.Var kind start region) = true
+is_var b = false
+
+-- a var or a signal
+abbrev pub is_value : Body → Bool
+is_value (body.Var kind start region) = true
+is_value (body.Signal kind expr) = true
+is_value b = false
+
+abbrev pub names_in : List Decl → List (List ℕ)
+names_in decls = map (λ d. d.name.items) decls
+
+-- the names of a program, in order of declaration
+abbrev pub names_of : Program → List (List ℕ)
+names_of p = names_in p.decls.items
+
+-- the place of the declaration with this name
+abbrev pub place_of : List (List ℕ) → List ℕ → Option ℕ
+place_of names name = position (bytes_eq name) names
+
+-- the place of the declaration with this name, where what it declares passes the test
+abbrev pub placed : (Body → Bool) → List Decl → List ℕ → Option ℕ
+placed test decls name = do
+  id ← place_of (names_in decls) name
+  decl ← slice_get decls id
+  only_if (test decl.body) id
+
+-- a list that begins with a mark of this kind: what stands behind it
+abbrev pub behind : (Mark → Bool) → List Mark → Option (List Mark)
+behind test [] = None
+behind test (mark ∷ marks) = only_if (test mark) marks
+
+-- a list that begins with a NAME: its bytes, and what stands behind it
+abbrev pub named : List Mark → Option (List ℕ × List Mark)
+named (Name bytes ∷ marks) = Some (bytes, marks)
+named marks = None
+
+-- no mark is left
+abbrev pub is_none_left : List Mark → Bool
+is_none_left [] = true
+is_none_left (mark ∷ marks) = false
+
+-- a mark put before the first part of a split list
+abbrev pub onto : Mark → List (List Mark) × List Mark → List (List Mark) × List Mark
+onto mark ([], rest) = ([], mark ∷ rest)
+onto mark (part ∷ parts, rest) = ((mark ∷ part) ∷ parts, rest)
+
+-- the parts that a sign of this place ends, without it, and what stands behind the last such sign
+abbrev pub split : ℕ → List Mark → List (List Mark) × List Mark
+split sign [] = ([], [])
+split sign (mark ∷ marks) = if is_sign sign mark then ([] ∷ (split sign marks).0, (split sign marks).1) else onto mark (split sign marks)
+
+-- the parts between the signs of this place
+abbrev pub parts_of : ℕ → List Mark → List (List Mark)
+parts_of sign marks = (split sign marks).0 ++ (split sign marks).1 ∷ []
+
+-- an int of 64 bits
+abbrev pub fitting : ℤ → Option ℤ
+fitting z = only_if (is_word_number z) z
+
+-- the int that these marks are: a NUMBER, or `-` and a NUMBER
+abbrev pub literal_of : List Mark → Option ℤ
+literal_of (Number n ∷ []) = fitting (pos n)
+literal_of (Sign place ∷ Number n ∷ []) = if place == minus then fitting (pos 0 -ℤ pos n) else None
+literal_of marks = None
+
+-- the term that these marks are behind these declarations: the name of a var or a signal, or an int
+abbrev pub term_of : List Decl → List Mark → Option Expr
+term_of earlier (Name bytes ∷ []) = option_map expr.Name (placed is_value earlier bytes)
+term_of earlier marks = option_map (λ z. expr.Lit (word.Int z)) (literal_of marks)
+
+abbrev pub added : Expr → Expr → Expr
+added left right = expr.Bin op.Add left right
+
+-- these terms, added one after the other to what stands on their left
+abbrev pub sum_behind : List Decl → Expr → List (List Mark) → Option Expr
+sum_behind earlier left [] = Some left
+sum_behind earlier left (term ∷ terms) = do
+  right ← term_of earlier term
+  sum_behind earlier (added left right) terms
+
+-- the sum of these terms
+abbrev pub sum_of_terms : List Decl → List (List Mark) → Option Expr
+sum_of_terms earlier [] = None
+sum_of_terms earlier (term ∷ terms) = do
+  left ← term_of earlier term
+  sum_behind earlier left terms
+
+-- the sum that these marks are: its depth is at most 64, so it has at most 64 terms
+abbrev pub sum_of : List Decl → List Mark → Option Expr
+sum_of earlier marks = if nat_le (length (parts_of plus marks)) 64 then sum_of_terms earlier (parts_of plus marks) else None
+
+abbrev pub declared : List ℕ → Body → Decl
+declared name b = record { name = plain name; body = b }
+
+-- `device NAME`, behind its first word
+abbrev pub device_of : List Mark → Option Decl
+device_of marks = do
+  name ← named marks
+  only_if (is_none_left name.1) (declared name.0 body.Device)
+
+-- `var NAME: int = LIT`, behind its first word
+abbrev pub var_of : List Mark → Option Decl
+var_of marks = do
+  name ← named marks
+  typed ← behind (is_sign colon) name.1
+  set ← behind (is_reserved int_word) typed
+  literal ← behind (is_sign equals) set
+  start ← literal_of literal
+  Some (declared name.0 (body.Var kind.Int (word.Int start) 1))
+
+-- `signal NAME = A { + A }`, behind its first word
+abbrev pub signal_of : List Decl → List Mark → Option Decl
+signal_of earlier marks = do
+  name ← named marks
+  terms ← behind (is_sign equals) name.1
+  expr ← sum_of earlier terms
+  Some (declared name.0 (body.Signal kind.Int expr))
+
+-- the declaration that these marks are, behind earlier ones
+abbrev pub statement_of : List Decl → List Mark → Option Decl
+statement_of earlier [] = None
+statement_of earlier (mark ∷ marks) = if is_reserved device_word mark then device_of marks
+    else if is_reserved var_word mark then var_of marks
+    else if is_reserved signal_word mark then signal_of earlier marks
+    else None
+
+-- a declaration may follow these: the device is the first and the only one, no two names are equal, and there are at most 512 declarations and 256 vars
+abbrev pub may_follow : List Decl → Decl → Bool
+may_follow earlier d = bool_eq (is_device d.body) (length earlier == 0)
+    && not (is_some (place_of (names_in earlier) d.name.items))
+    && nat_lt (length earlier) 512
+    && (not (is_var d.body) || nat_lt (count_by (λ e. is_var e.body) earlier) 256)
+
+-- the declarations that these statements are, behind earlier ones
+abbrev pub declarations : List Decl → List (List Mark) → Option (List Decl)
+declarations earlier [] = Some earlier
+declarations earlier (statement ∷ statements) = do
+  d ← statement_of earlier statement
+  next ← only_if (may_follow earlier d) (earlier ++ d ∷ [])
+  declarations next statements
+
+abbrev pub program_with : List Decl → Option Program
+program_with [] = None
+program_with (d ∷ decls) = Some (record { decls = plain (d ∷ decls) })
+
+-- the program of these statements, where no mark stands behind the last
+abbrev pub program_in : List (List Mark) × List Mark → Option Program
+program_in (statements, []) = do
+  decls ← declarations [] statements
+  program_with decls
+program_in (statements, mark ∷ rest) = None
+
+-- the program that a text is, or None where it is no such program or has over 65,536 bytes
+abbrev pub program_of : List ℕ → Option Program
+program_of text = if nat_lt 65536 (length text) then None else do
+  marks ← marks_of text
+  program_in (split semicolon marks)
