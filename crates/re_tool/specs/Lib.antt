@@ -1,1 +1,4 @@
 pub mod Built
+pub mod Device
+pub mod Names
+pub mod Texts

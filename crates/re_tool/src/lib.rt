@@ -1,2 +1,5 @@
 //! The top call: the words of a command line and a stream of bytes come in, answers go out.
 #![tactic(auto)]
+
+mod device;
+mod evaluate;
