@@ -1,2 +1,3 @@
 pub mod Clipping
 pub mod Reading
+pub mod Sums

@@ -5,3 +5,6 @@ pub mod Reads
 pub mod Commands
 pub mod Grammar
 pub mod Tokens
+pub mod Device
+pub mod Names
+pub mod Texts

@@ -6,3 +6,6 @@ mod line;
 mod reader;
 pub mod command;
 pub mod tokens;
+mod answer;
+mod device;
+mod evaluate;

@@ -1,0 +1,70 @@
+-- The state of the one device, as the code keeps it.
+use Rattle.std.specs.Prelude.{ℕ, ◌≡◌, ◌<◌, Bool, true, false, List, [], ◌∷◌, length, slice_get, slice_index, Option, None, Some, count_by}
+use Rattle.re_terms.specs.declared.word.Word.{Word}
+use Rattle.re_terms.specs.declared.word.Word.TheVariants as word
+use Rattle.re_terms.specs.declared.program.Body.{Body}
+use Rattle.re_terms.specs.declared.program.Body.TheVariants as body
+use Rattle.re_terms.specs.declared.program.Decl.{Decl}
+use Rattle.re_terms.specs.declared.program.Program.{Program}
+use Rattle.re_terms.specs.Signal.{is_cell, cell_place}
+use Rattle.re_terms.specs.Plain.{Setting}
+use Rattle.re_terms.specs.World.{World, PlainCommand, TakeTurn, Get, PlainAnswer, Entered, Value, Refused, Outcome, world_state, last_number, reply, world_after}
+use Rattle.re_tool.specs.declared.device.Command.{Command}
+use Rattle.re_tool.specs.declared.device.Command.TheVariants as command
+use Rattle.re_tool.specs.declared.device.Answer.{Answer}
+use Rattle.re_tool.specs.declared.device.Answer.TheVariants as answer
+
+-- the words of vars and folds, for each declaration the place of its word among them,
+-- and the number of the last entry
+pub record DeviceState : Type 0 where
+  pub words : List Word
+  pub places : List ℕ
+  pub number : ℕ
+
+abbrev pub plain_command : Command → PlainCommand
+plain_command (command.Turn id number) = TakeTurn (record { id = id; word = word.Int number } ∷ [])
+plain_command (command.Get id) = Get id
+
+abbrev pub plain_answer : Answer → PlainAnswer
+plain_answer (answer.Entered n) = Entered n
+plain_answer (answer.Value w) = Value w
+plain_answer (answer.Refused c) = Refused c
+
+-- there is a word for each var and fold, and the places are theirs
+pub record Fits (p : Program) (device : DeviceState) : Type 0 where
+  pub words : length device.words ≡ count_by is_cell p.decls.items
+  pub places : length device.places ≡ length p.decls.items
+  pub place : (id : ℕ) → id < length p.decls.items → slice_index device.places id ≡ cell_place p.decls.items id
+
+-- the device's words and number are those of the world's device
+pub record Represents (p : Program) (w : World) (device : DeviceState) : Type 0 where
+  pub words : device.words ≡ (world_state p w).words
+  pub number : device.number ≡ last_number w
+
+abbrev pub is_var_body : Body → Bool
+is_var_body (body.Var kind start region) = true
+is_var_body b = false
+
+abbrev pub is_valued_body : Body → Bool
+is_valued_body (body.Var kind start region) = true
+is_valued_body (body.Signal kind expr) = true
+is_valued_body b = false
+
+abbrev pub is_var : Option Decl → Bool
+is_var None = false
+is_var (Some d) = is_var_body d.body
+
+abbrev pub is_valued : Option Decl → Bool
+is_valued None = false
+is_valued (Some d) = is_valued_body d.body
+
+-- a turn sets a var, and a get asks for a var or a signal
+abbrev pub is_meant_for : Program → Command → Bool
+is_meant_for p (command.Turn id number) = is_var (slice_get p.decls.items id)
+is_meant_for p (command.Get id) = is_valued (slice_get p.decls.items id)
+
+-- a command answered as one step of each world that the device stands for
+pub record Steps (p : Program) (before after : DeviceState) (c : Command) (a : Answer) : Type 0 where
+  pub outcome : Outcome
+  pub answers : (w : World) → Represents p w before → plain_answer a ≡ reply p w (plain_command c) outcome
+  pub world : (w : World) → Represents p w before → Represents p (world_after p w (plain_command c) outcome) after
