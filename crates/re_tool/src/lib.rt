@@ -1,11 +1,14 @@
 //! The top call: the words of a command line and a stream of bytes come in, answers go out.
 #![tactic(auto)]
 
-mod chunk;
-mod line;
-mod reader;
-pub mod command;
-pub mod tokens;
 mod answer;
+mod chunk;
+mod command;
 mod device;
 mod evaluate;
+mod line;
+mod reader;
+mod status;
+mod tokens;
+
+pub use status::Status;

@@ -1,0 +1,63 @@
+-- What a whole run does.
+use Rattle.std.specs.Prelude.{ℕ, ◌≡◌, ◌≤◌, ◌+◌, ◌++◌, ◌⊎◌, length, List, [], Bool, true, false, IsSome}
+use Rattle.re_outside.specs.Outside.{Seen, Does, Breaks, IsAtEnd, Faults, none}
+use Rattle.re_tool.specs.declared.status.Status.{Status}
+use Rattle.re_tool.specs.declared.status.Status.TheVariants as status
+use Rattle.re_tool.specs.Acts.{OrderedIn}
+use Rattle.re_tool.specs.Lines.{split}
+use Rattle.re_tool.specs.Part.{divided}
+use Rattle.re_tool.specs.Reads.{limit}
+use Rattle.re_tool.specs.Answers.{Outcomes, answers, done, status_line}
+
+abbrev pub is_output : Status → Bool
+is_output status.Output = true
+is_output s = false
+
+-- All of the answers are said and the status is theirs, or a front of them where a `say` failed.
+abbrev pub Tells : List ℕ × Status → List ℕ → Status → Type 0
+Tells a text status.Output = (rest : List ℕ) × (a.0 ≡ text ++ rest)
+Tells a text s = (a.0 ≡ text) × (a.1 ≡ s)
+
+abbrev pub one_if : Bool → ℕ
+one_if true = 1
+one_if false = 0
+
+abbrev pub faults_of : Bool → Bool → Faults
+faults_of input output = record { input = one_if input; output = one_if output }
+
+-- at the end for want of memory or of output at most one line, the last, has no whole answer
+abbrev pub Unanswered : Status → List (List ℕ) → Type 0
+Unanswered status.Output lines = length lines ≤ 1
+Unanswered status.Memory lines = length lines ≤ 1
+Unanswered s lines = lines ≡ []
+
+-- a whole line that ends the program part was read
+abbrev pub HasSeparator : List ℕ → Type 0
+HasSeparator read = IsSome (divided (split read).0)
+
+-- how far the input was read: to its end where the status is 0, and to the separator or the end where it is 3
+abbrev pub ReadFar : Status → List ℕ → Seen → Type 0
+ReadFar status.Done read new = IsAtEnd new
+ReadFar status.Program read new = HasSeparator read ⊎ IsAtEnd new
+ReadFar s read new = Unit {0}
+
+pub record Runs (old new : Seen) (s : Status) : Type 0 where
+  -- the bytes that were taken, at most one over the limit
+  pub read : List ℕ
+  pub few : length read ≤ limit + 1
+  pub outcomes : Outcomes
+  -- the text that was said
+  pub text : List ℕ
+  -- the input fault and the output fault are the outcomes', and no others came
+  pub does : Does old new read text (faults_of outcomes.input_failed (is_output s))
+  pub tells : Tells (answers read outcomes) text s
+  -- the answers stand whole and in order behind their commands' steps, all but perhaps the last
+  pub unanswered : List (List ℕ)
+  pub whole : Unanswered s unanswered
+  pub ordered : OrderedIn old new (done read outcomes) outcomes.commands unanswered
+  pub far : ReadFar s read new
+
+-- The last line is said, or a front of it.
+abbrev pub Finishes : Seen → Seen → Status → Status → Type 0
+Finishes old new s status.Output = Breaks old new (status_line s) none
+Finishes old new s r = (r ≡ s) × Does old new [] (status_line s) none
