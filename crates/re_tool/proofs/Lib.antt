@@ -1,3 +1,5 @@
 pub mod Clipping
+pub mod Parts
 pub mod Reading
+pub mod Splits
 pub mod Sums

@@ -8,6 +8,7 @@ pub mod Grammar
 pub mod Lines
 pub mod Names
 pub mod Part
+pub mod PartReading
 pub mod Reads
 pub mod Session
 pub mod Status

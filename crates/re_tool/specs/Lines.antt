@@ -20,6 +20,11 @@ abbrev pub IsPlain : List ℕ → Type 0
 IsPlain [] = Unit {0}
 IsPlain (b ∷ bytes) = ((b == 10) ≡ false) × IsPlain bytes
 
+-- each of these lines is plain
+abbrev pub ArePlain : List (List ℕ) → Type 0
+ArePlain [] = Unit {0}
+ArePlain (line ∷ lines) = IsPlain line × ArePlain lines
+
 -- a whole line without the one CR before its LF
 abbrev pub without_return : List ℕ → List ℕ
 without_return line = if slice_index_or line (length line - 1) 0 == 13 then take (length line - 1) line else line

@@ -7,6 +7,7 @@ mod command;
 mod device;
 mod evaluate;
 mod line;
+mod part;
 mod reader;
 mod status;
 mod tokens;

@@ -1,5 +1,5 @@
 //! A line as far as it is kept.
-ghost use Rattle.std.specs.Prelude.{◌≡◌, ◌++◌, ◌∷◌, [], OnOk, IfOk};
+ghost use Rattle.std.specs.Prelude.{◌≡◌, ◌++◌, ◌∷◌, [], OnOk};
 ghost use Rattle.re_tool.specs.Clipped.{clipped};
 
 use std::alloc::{AllocError, Global};
@@ -7,12 +7,12 @@ use std::marker::Model;
 
 /// The first bytes of a line, at most so many.
 #[derive(Drop)]
-pub struct Line {
+pub struct ClippedLine {
     bytes: Vec<u8>,
     most: usize,
 }
 
-impl Model for Line {
+impl Model for ClippedLine {
     ghost use Rattle.std.specs.Prelude.{◌≤◌};
     ghost use Rattle.std.proofs.Common.{vec_len};
     ghost use Rattle.re_tool.specs.Clipped.{Clipped};
@@ -24,12 +24,12 @@ impl Model for Line {
     ghost invariant = { λ l. vec_len l.bytes ≤ l.most };
 }
 
-impl Line {
+impl ClippedLine {
     /// An empty line. It takes no memory.
-    pub fn new(alloc: Global, most: usize) -> Line
+    pub fn new(alloc: Global, most: usize) -> ClippedLine
         ensures { result ≡ clipped most [] }
     {
-        Line {
+        ClippedLine {
             bytes: Vec::new(alloc),
             most,
         }
@@ -49,6 +49,16 @@ impl Line {
         if self.bytes.len() < self.most {
             self.bytes.push(byte)?;
         }
+        Ok(())
+    }
+
+    /// Keeps as many of the bytes as there is room for. The one refusal is want of memory.
+    pub fn append(&mut self, bytes: &[u8]) -> Result<(), AllocError>
+        ensures { OnOk result (self.new ≡ clipped self.old.most (self.old.items ++ bytes.now)) }
+    {
+        let room = self.most - self.bytes.len();
+        let fits = room.min(bytes.len());
+        self.bytes.extend_from_slice(&bytes[..fits])?;
         Ok(())
     }
 

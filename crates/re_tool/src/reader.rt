@@ -3,7 +3,7 @@ ghost use Rattle.std.specs.Prelude.{◌≡◌, ◌≤◌, []};
 ghost use Rattle.re_tool.specs.Reads.{ScanGives, RefillGives, NextGives, limit};
 
 use crate::chunk::Chunk;
-use crate::line::Line;
+use crate::line::ClippedLine;
 use re_outside::{Failed, Outside};
 use std::alloc::AllocError;
 
@@ -56,7 +56,7 @@ impl Reader {
     }
 
     /// Passes over bytes up to an LF, and says whether there was one.
-    fn scan(&mut self, line: &mut Line) -> Result<bool, AllocError>
+    fn scan(&mut self, line: &mut ClippedLine) -> Result<bool, AllocError>
         ensures { ScanGives self.old self.new line.old line.new result }
     {
         while let Some(byte) = self.chunk.next() {
@@ -91,7 +91,7 @@ impl Reader {
     }
 
     /// Passes over the next line, and keeps it as far as the line has room.
-    pub fn next<O: Outside>(&mut self, line: &mut Line, out: &mut O) -> Result<Next, Halt>
+    pub fn next<O: Outside>(&mut self, line: &mut ClippedLine, out: &mut O) -> Result<Next, Halt>
         requires few { self.old.taken ≤ limit }
         ensures { NextGives self.old self.new line.new line.old.most (O.seen out.old) (O.seen out.new) result }
     {
