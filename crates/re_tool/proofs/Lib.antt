@@ -1,1 +1,5 @@
+pub mod Bodies
+pub mod Devices
+pub mod Evaluated
+pub mod Marking
 pub mod Sums

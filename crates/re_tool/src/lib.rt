@@ -4,3 +4,4 @@
 mod answer;
 mod device;
 mod evaluate;
+mod needs;
