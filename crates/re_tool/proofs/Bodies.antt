@@ -1,5 +1,5 @@
 -- What a declaration's body says, form by form.
-use Rattle.std.proofs.Common.{◌≡◌, ◌<◌, ℕ, List, true, Option, None, Some, pos, refl, sym, ap, ◌∙◌}
+use Rattle.std.proofs.Common.{◌≡◌, ◌<◌, ℕ, List, true, Option, None, Some, pos, refl, ap}
 use Rattle.std.specs.Prelude.{slice_get, slice_index, slice_index_or}
 use Rattle.re_terms.specs.declared.word.Word.{Word}
 use Rattle.re_terms.specs.declared.word.Word.TheVariants as word
@@ -10,10 +10,10 @@ use Rattle.re_terms.specs.declared.program.Body.TheVariants as body
 use Rattle.re_terms.specs.declared.program.Decl.{Decl}
 use Rattle.re_terms.specs.declared.program.Program.{Program}
 use Rattle.re_terms.specs.Listed.{Listed}
-use Rattle.re_terms.specs.Signal.{body_word, cell_place, is_cell_body}
+use Rattle.re_terms.specs.Signal.{body_word, cell_place}
 use Rattle.re_tool.specs.Built.{IsBuilt, is_sum_below}
 use Rattle.re_tool.specs.Names.{body_reads, is_sum_body}
-use Rattle.re_tool.specs.Device.{DeviceState, device_word, is_var, is_var_body}
+use Rattle.re_tool.specs.Device.{DeviceState, device_word, is_var, is_var_body, is_valued}
 use Rattle.re_tool.proofs.Sums.{occurs-below, meaning-names}
 
 sum_body : (b : Body) (n : ℕ) → ((kind : Kind) (expr : Expr) → b ≡ body.Signal kind expr → is_sum_below n expr ≡ true) → is_sum_body n b ≡ true
@@ -116,3 +116,12 @@ pub record DeclaredVar (o : Option Decl) : Type 0 where
 pub declared_var : (o : Option Decl) → is_var o ≡ true → DeclaredVar o
 declared_var None is = absurd (cc)
 declared_var (Some d) is = record { decl = d; is = refl; var = is }
+
+-- what a get asks for is declared
+pub record Declared (o : Option Decl) : Type 0 where
+  pub decl : Decl
+  pub is : o ≡ Some decl
+
+pub declared_valued : (o : Option Decl) → is_valued o ≡ true → Declared o
+declared_valued None is = absurd (cc)
+declared_valued (Some d) is = record { decl = d; is = refl }

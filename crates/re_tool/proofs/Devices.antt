@@ -1,21 +1,19 @@
 -- The device's state at the start and after a command.
-use Rattle.std.proofs.Common.{◌≡◌, ◌<◌, ◌≤◌, ◌+◌, ℕ, Bool, true, cond, Option, None, Some, List, [], ◌∷◌, ◌++◌, length, get_or, set, take, drop, refl, sym, ap, ◌∙◌, arith, append_assoc}
-use Rattle.std.specs.Prelude.{slice_get, slice_index, slice_set, count_by}
+use Rattle.std.proofs.Common.{◌≡◌, ◌<◌, ◌≤◌, ◌+◌, ℕ, Bool, cond, Option, None, Some, List, [], ◌∷◌, ◌++◌, length, get_or, drop, sym, ap, ◌∙◌, arith, append_assoc}
+use Rattle.std.specs.Prelude.{slice_get, slice_index, slice_set}
 use Rattle.std.specs.Option.{is_some, option_to_list}
 use Rattle.std.proofs.lemmas.List.{at_drop_more, length-set, length-append}
 use Rattle.std.proofs.lemmas.List.Sums.{sum_by_more, sum_by-take-le, count_by-le-length}
 use Rattle.std.proofs.lemmas.Option.{slice_get_within}
 use Rattle.re_terms.specs.declared.word.Word.{Word}
-use Rattle.re_terms.specs.declared.word.Word.TheVariants as word
-use Rattle.re_terms.specs.declared.program.Body.{Body}
 use Rattle.re_terms.specs.declared.program.Decl.{Decl}
 use Rattle.re_terms.specs.declared.program.Program.{Program}
-use Rattle.re_terms.specs.Plain.{start_then, start_words, PlainState, Turn, Setting, words_after}
+use Rattle.re_terms.specs.Plain.{start_then, start_words, PlainState, Turn, Setting}
 use Rattle.re_terms.specs.Signal.{is_cell, is_cell_body, cell_place}
-use Rattle.re_terms.specs.World.{World, TakeTurn, Fine, world_state, last_number, world_after}
+use Rattle.re_terms.specs.World.{World, TakeTurn, Fine, world_state, world_after}
 use Rattle.re_terms.proofs.States.{cell_place-within, words_after-set, run_entries-append}
 use Rattle.re_tool.specs.Device.{DeviceState, Fits, Represents}
-use Rattle.re_tool.proofs.Bodies.{AVar, a_var, DeclaredVar, declared_var}
+use Rattle.re_tool.proofs.Bodies.{a_var, DeclaredVar}
 
 -- at most so many vars and folds as declarations
 pub cell_place-le : (decls : List Decl) (id : ℕ) → cell_place decls id ≤ length decls
@@ -55,7 +53,6 @@ turned-fits p device id w fits = record {
   places = fits.places;
   place = fits.place;
 }
-
 
 pub turned-represents : (p : Program) (w : World) (device : DeviceState) (id : ℕ) (new : Word) → Fits p device → Represents p w device → (v : DeclaredVar (slice_get p.decls.items id)) → Represents p (world_after p w (TakeTurn (record { id = id; word = new } ∷ [])) Fine) (turned device id new)
 turned-represents p w device id new fits is v =

@@ -22,8 +22,8 @@ loop-place-preserved-then-index c =
     } in
     let within : at < length c.args.program.now.decls.items = omega arith in
     let found : slice_get c.args.program.now.decls.items at ≡ Some decl =
-        slice_get-get_or c.args.program.now.decls.items at c.index-decls-place.result within
-        ∙ ap (λ (l : List Decl). Some (get_or l at c.index-decls-place.result)) (sym c.as_slice-decls.ensures) in
+    slice_get-get_or c.args.program.now.decls.items at c.index-decls-place.result within
+    ∙ ap (λ (l : List Decl). Some (get_or l at c.index-decls-place.result)) (sym c.as_slice-decls.ensures) in
     let next : c.loop-place.place ≡ at + 1 = omega arith in
     let closed = subst (IsClosed c.args.program.now.decls.items before) next c.loop-place.invariant.closed in
     rw e (record {
