@@ -2,4 +2,8 @@ pub mod Clipping
 pub mod Parts
 pub mod Reading
 pub mod Splits
+pub mod Bodies
+pub mod Devices
+pub mod Evaluated
+pub mod Marking
 pub mod Sums

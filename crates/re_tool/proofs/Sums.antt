@@ -1,6 +1,5 @@
 -- The word of a sum depends on the words that it names alone.
-use Rattle.std.proofs.Common.{◌≡◌, ◌<◌, ◌⊎◌, inl, inr, ℕ, Bool, true, false, ◌||◌, ◌&&◌, ◌==◌, refl, sym, ap, subst, ◌∙◌, arith}
-use Rattle.std.specs.Prelude.{nat_lt}
+use Rattle.std.proofs.Common.{◌≡◌, ◌<◌, ◌⊎◌, inl, inr, ℕ, Bool, true, false, ◌&&◌, refl, sym, ap, subst, ◌∙◌, arith}
 use Rattle.std.proofs.lemmas.Bool.{and_parts, or_left, or_right, or_cases, eq-eqb, eqb-true, ltb-true}
 use Rattle.re_terms.specs.declared.word.Word.{Word}
 use Rattle.re_terms.specs.declared.expr.Op.{Op}
@@ -10,7 +9,7 @@ use Rattle.re_terms.specs.declared.expr.Expr.TheFolds.{fold-roll-Expr, ind-Expr}
 use Rattle.re_terms.specs.Arithmetic.{operator_word}
 use Rattle.re_terms.specs.Meaning.{Environment, meaning, meaning_step}
 use Rattle.re_terms.specs.Signal.{words_environment}
-use Rattle.re_tool.specs.Built.{is_sum_below, sum_step, is_add, is_int}
+use Rattle.re_tool.specs.Built.{is_sum_below, sum_step, is_add}
 use Rattle.re_tool.specs.Names.{occurs, occurs_step}
 
 -- one layer of each fold

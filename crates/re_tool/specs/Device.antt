@@ -1,13 +1,13 @@
 -- The state of the one device, as the code keeps it.
-use Rattle.std.specs.Prelude.{ℕ, ◌≡◌, ◌<◌, Bool, true, false, List, [], ◌∷◌, length, slice_get, slice_index, Option, None, Some, count_by}
+use Rattle.std.specs.Prelude.{ℕ, ◌≡◌, ◌<◌, Bool, true, false, List, [], ◌∷◌, length, slice_get, slice_index, slice_index_or, pos, Option, None, Some, count_by}
 use Rattle.re_terms.specs.declared.word.Word.{Word}
 use Rattle.re_terms.specs.declared.word.Word.TheVariants as word
 use Rattle.re_terms.specs.declared.program.Body.{Body}
 use Rattle.re_terms.specs.declared.program.Body.TheVariants as body
 use Rattle.re_terms.specs.declared.program.Decl.{Decl}
 use Rattle.re_terms.specs.declared.program.Program.{Program}
-use Rattle.re_terms.specs.Signal.{is_cell, cell_place}
-use Rattle.re_terms.specs.Plain.{Setting}
+use Rattle.re_terms.specs.Meaning.{meaning}
+use Rattle.re_terms.specs.Signal.{is_cell, cell_place, words_environment}
 use Rattle.re_terms.specs.World.{World, PlainCommand, TakeTurn, Get, PlainAnswer, Entered, Value, Refused, Outcome, world_state, last_number, reply, world_after}
 use Rattle.re_tool.specs.declared.device.Command.{Command}
 use Rattle.re_tool.specs.declared.device.Command.TheVariants as command
@@ -62,6 +62,11 @@ is_valued (Some d) = is_valued_body d.body
 abbrev pub is_meant_for : Program → Command → Bool
 is_meant_for p (command.Turn id number) = is_var (slice_get p.decls.items id)
 is_meant_for p (command.Get id) = is_valued (slice_get p.decls.items id)
+
+-- the word of the declaration with this body, over the words of those before it
+abbrev pub device_word : DeviceState → ℕ → Body → (ℕ → Word) → Word
+device_word device id (body.Signal kind expr) words = meaning expr (words_environment words)
+device_word device id b words = slice_index_or device.words (slice_index device.places id) (word.Int (pos 0))
 
 -- a command answered as one step of each world that the device stands for
 pub record Steps (p : Program) (before after : DeviceState) (c : Command) (a : Answer) : Type 0 where

@@ -13,3 +13,4 @@ mod status;
 mod tokens;
 
 pub use status::Status;
+mod needs;
