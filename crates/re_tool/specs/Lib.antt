@@ -1,5 +1,6 @@
 pub mod Built
 pub mod Commands
 pub mod Grammar
-pub mod Tokens
+pub mod Parts
 pub mod Scanning
+pub mod Tokens

@@ -2,4 +2,6 @@
 #![tactic(auto)]
 
 pub mod command;
+pub mod names;
+pub mod patterns;
 pub mod tokens;
