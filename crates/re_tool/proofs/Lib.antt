@@ -7,3 +7,5 @@ pub mod Devices
 pub mod Evaluated
 pub mod Marking
 pub mod Sums
+pub mod Marks
+pub mod NameTables

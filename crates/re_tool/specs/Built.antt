@@ -1,5 +1,5 @@
 -- What the programs that can be run so far have.
-use Rattle.std.specs.Prelude.{ℕ, ◌≡◌, ◌≤◌, ◌&&◌, Bool, true, false, Some, length, nat_lt, option_map, slice_get}
+use Rattle.std.specs.Prelude.{ℕ, ◌≡◌, ◌≤◌, ◌&&◌, Bool, true, false, not, List, [], ◌∷◌, ◌++◌, is_some, Some, length, nat_lt, option_map, slice_get}
 use Rattle.re_terms.specs.declared.word.Word.{Word}
 use Rattle.re_terms.specs.declared.word.Kind.{Kind}
 use Rattle.re_terms.specs.declared.word.Word.TheVariants as word
@@ -10,6 +10,7 @@ use Rattle.re_terms.specs.declared.expr.Expr.TheOpen.{Expr-F, Lit, Name, Bin}
 use Rattle.re_terms.specs.declared.program.Body.TheVariants as body
 use Rattle.re_terms.specs.declared.program.Decl.{Decl}
 use Rattle.re_terms.specs.declared.program.Program.{Program}
+use Rattle.re_tool.specs.Grammar.{place_of, names_of}
 
 -- an int as it stands
 abbrev pub is_int : Word → Bool
@@ -30,8 +31,14 @@ sum_step n e = false
 abbrev pub is_sum_below : ℕ → Expr → Bool
 is_sum_below n = fold-Expr Bool (sum_step n)
 
--- the first declaration is the device, and each signal is a sum of ints and of names that are declared before it
+-- these names stand neither among the earlier ones nor twice
+abbrev pub are_distinct : List (List ℕ) → List (List ℕ) → Bool
+are_distinct earlier [] = true
+are_distinct earlier (name ∷ names) = not (is_some (place_of earlier name)) && are_distinct (earlier ++ name ∷ []) names
+
+-- the first declaration is the device, names differ, and each signal is a sum of ints and of names that are declared before it
 pub record IsBuilt (p : Program) : Type 0 where
   pub few : length p.decls.items ≤ 512
   pub device : option_map (λ d. d.body) (slice_get p.decls.items 0) ≡ Some body.Device
+  pub distinct : are_distinct [] (names_of p) ≡ true
   pub sums : (id : ℕ) (d : Decl) (kind : Kind) (expr : Expr) → slice_get p.decls.items id ≡ Some d → d.body ≡ body.Signal kind expr → is_sum_below id expr ≡ true

@@ -159,37 +159,36 @@ sum_of earlier marks = if nat_le (length (parts_of plus marks)) 64 then sum_of_t
 abbrev pub declared : List ℕ → Body → Decl
 declared name b = record { name = plain name; body = b }
 
--- `device NAME`, behind its first word
-abbrev pub device_of : List Mark → Option Decl
-device_of marks = do
-  name ← named marks
-  only_if (is_none_left name.1) (declared name.0 body.Device)
-
--- `var NAME: int = LIT`, behind its first word
-abbrev pub var_of : List Mark → Option Decl
+-- a var, whose declaration ends in `: int = LIT`
+abbrev pub var_of : List Mark → Option Body
 var_of marks = do
-  name ← named marks
-  typed ← behind (is_sign colon) name.1
+  typed ← behind (is_sign colon) marks
   set ← behind (is_reserved int_word) typed
   literal ← behind (is_sign equals) set
   start ← literal_of literal
-  Some (declared name.0 (body.Var kind.Int (word.Int start) 1))
+  Some (body.Var kind.Int (word.Int start) 1)
 
--- `signal NAME = A { + A }`, behind its first word
-abbrev pub signal_of : List Decl → List Mark → Option Decl
+-- a signal, whose declaration ends in `= A { + A }`
+abbrev pub signal_of : List Decl → List Mark → Option Body
 signal_of earlier marks = do
-  name ← named marks
-  terms ← behind (is_sign equals) name.1
+  terms ← behind (is_sign equals) marks
   expr ← sum_of earlier terms
-  Some (declared name.0 (body.Signal kind.Int expr))
+  Some (body.Signal kind.Int expr)
 
--- the declaration that these marks are, behind earlier ones
+-- what a declaration with this first word declares, by the marks behind its name
+abbrev pub body_of : List Decl → Mark → List Mark → Option Body
+body_of earlier first marks = if is_reserved device_word first then only_if (is_none_left marks) body.Device
+    else if is_reserved var_word first then var_of marks
+    else if is_reserved signal_word first then signal_of earlier marks
+    else None
+
+-- the declaration that these marks are, behind earlier ones: its first word, its name, and the rest
 abbrev pub statement_of : List Decl → List Mark → Option Decl
 statement_of earlier [] = None
-statement_of earlier (mark ∷ marks) = if is_reserved device_word mark then device_of marks
-    else if is_reserved var_word mark then var_of marks
-    else if is_reserved signal_word mark then signal_of earlier marks
-    else None
+statement_of earlier (first ∷ marks) = do
+  name ← named marks
+  b ← body_of earlier first name.1
+  Some (declared name.0 b)
 
 -- a declaration may follow these: the device is the first and the only one, no two names are equal, and there are at most 512 declarations and 256 vars
 abbrev pub may_follow : List Decl → Decl → Bool
@@ -198,12 +197,17 @@ may_follow earlier d = bool_eq (is_device d.body) (length earlier == 0)
     && nat_lt (length earlier) 512
     && (not (is_var d.body) || nat_lt (count_by (λ e. is_var e.body) earlier) 256)
 
+-- the earlier declarations and the one that a statement is
+abbrev pub declared_next : List Decl → List Mark → Option (List Decl)
+declared_next earlier statement = do
+  d ← statement_of earlier statement
+  only_if (may_follow earlier d) (earlier ++ d ∷ [])
+
 -- the declarations that these statements are, behind earlier ones
 abbrev pub declarations : List Decl → List (List Mark) → Option (List Decl)
 declarations earlier [] = Some earlier
 declarations earlier (statement ∷ statements) = do
-  d ← statement_of earlier statement
-  next ← only_if (may_follow earlier d) (earlier ++ d ∷ [])
+  next ← declared_next earlier statement
   declarations next statements
 
 abbrev pub program_with : List Decl → Option Program

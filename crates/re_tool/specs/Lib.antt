@@ -13,4 +13,6 @@ pub mod Reads
 pub mod Session
 pub mod Status
 pub mod Texts
+pub mod Parts
+pub mod Scanning
 pub mod Tokens

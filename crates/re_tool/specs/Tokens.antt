@@ -1,9 +1,7 @@
 -- The tokens of a text.
-use Rattle.std.specs.Prelude.{ℕ, zero, suc, ◌+◌, ◌-◌, ◌*◌, ◌^◌, ◌==◌, ◌&&◌, ◌||◌, not, Bool, true, false, if◌then◌else◌, List, [], ◌∷◌, length, drop, map, nat_lt, nat_le, slice_index_or, take, take_while, position, Option, Some, None, option_map, codes}
+use Rattle.std.specs.Prelude.{ℕ, zero, suc, ◌+◌, ◌-◌, ◌*◌, ◌^◌, ◌==◌, ◌&&◌, ◌||◌, not, Bool, true, false, if◌then◌else◌, List, [], ◌∷◌, length, drop, nat_lt, nat_le, slice_index_or, take, take_while, position, Option, Some, None, option_map, codes}
 use Rattle.std.specs.List.{prefix_len}
 use Rattle.std.specs.Str.{bytes_eq}
-use Rattle.re_tool.specs.declared.tokens.Mark.{Mark as SourceMark}
-use Rattle.re_tool.specs.declared.tokens.Mark.TheVariants as source
 
 -- a token; a reserved word and a sign go by their place in the two lists below
 pub data Mark : Type 0 where
@@ -101,13 +99,3 @@ marks_within (suc n) text = marks_step (skipped text) (marks_within n)
 -- the tokens of a text, or None where at some place none begins
 abbrev pub marks_of : List ℕ → Option (List Mark)
 marks_of text = marks_within (length text) text
-
--- a token as the code keeps it, which lends a name's bytes
-abbrev pub plain_mark : SourceMark → Mark
-plain_mark (source.Number value) = Number value
-plain_mark (source.Name bytes) = Name bytes.now
-plain_mark (source.Reserved place) = Reserved place
-plain_mark (source.Sign place) = Sign place
-
-abbrev pub plain_marks : List SourceMark → List Mark
-plain_marks marks = map plain_mark marks

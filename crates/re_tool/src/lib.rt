@@ -14,3 +14,7 @@ mod tokens;
 
 pub use status::Status;
 mod needs;
+pub mod command;
+pub mod names;
+pub mod patterns;
+pub mod tokens;
