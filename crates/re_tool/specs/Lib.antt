@@ -9,10 +9,11 @@ pub mod Lines
 pub mod Names
 pub mod Part
 pub mod PartReading
+pub mod Parts
 pub mod Reads
+pub mod Scanning
+pub mod Serving
 pub mod Session
 pub mod Status
 pub mod Texts
-pub mod Parts
-pub mod Scanning
 pub mod Tokens

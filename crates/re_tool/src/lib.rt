@@ -7,14 +7,13 @@ mod command;
 mod device;
 mod evaluate;
 mod line;
+mod names;
+mod needs;
 mod part;
+mod patterns;
 mod reader;
+mod session;
 mod status;
 mod tokens;
 
 pub use status::Status;
-mod needs;
-pub mod command;
-pub mod names;
-pub mod patterns;
-pub mod tokens;

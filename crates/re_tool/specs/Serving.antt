@@ -1,0 +1,62 @@
+-- What one line of a session does, and from where a session begins.
+use Rattle.std.specs.Prelude.{ℕ, ◌≡◌, ◌≤◌, List, [], ◌++◌, Option, Some, None, Result, Ok, Err, length, ⊤}
+use Rattle.std.specs.List.{flat_map}
+use Rattle.re_terms.specs.declared.program.Program.{Program}
+use Rattle.re_terms.specs.World.{World, Outcome, start_world}
+use Rattle.re_outside.specs.Outside.{Seen, Does, Breaks, none}
+use Rattle.re_tool.specs.declared.device.Answer.{Answer}
+use Rattle.re_tool.specs.declared.reader.Reader.{Reader}
+use Rattle.re_tool.specs.declared.session.Ended.{Ended}
+use Rattle.re_tool.specs.declared.session.Ended.TheVariants as ended_by
+use Rattle.re_tool.specs.Acts.{ActOn}
+use Rattle.re_tool.specs.Answers.{line_text, line_after}
+use Rattle.re_tool.specs.Commands.{line_of}
+use Rattle.re_tool.specs.Device.{DeviceState, Represents}
+use Rattle.re_tool.specs.Grammar.{program_of}
+use Rattle.re_tool.specs.Lines.{ended, ArePlain}
+use Rattle.re_tool.specs.Part.{divided}
+use Rattle.re_tool.specs.Reads.{limit}
+use Rattle.re_tool.specs.Texts.{answer_text}
+
+-- the text of an answer, and none of a blank line
+abbrev pub said_of : Option Answer → List ℕ
+said_of None = []
+said_of (Some answer) = answer_text answer
+
+-- A line is answered as one step of each world that the device stands for.
+pub record AnswersLine (p : Program) (line : List ℕ) (before after : DeviceState) (text : List ℕ) : Type 0 where
+  pub outcome : Outcome
+  pub says : (w : World) → Represents p w before → text ≡ line_text p w (line_of p line) outcome
+  pub world : (w : World) → Represents p w before → Represents p (line_after p w (line_of p line) outcome) after
+
+-- The line is done, and its answer said whole.
+pub record Turns (p : Program) (line : List ℕ) (before after : DeviceState) (old new : Seen) : Type 0 where
+  pub text : List ℕ
+  pub answers : AnswersLine p line before after text
+  pub act : ActOn old new text
+  pub does : Does old new [] text none
+
+-- The line is done, and its answer breaks off.
+pub record TurnBreaks (p : Program) (line : List ℕ) (before after : DeviceState) (old new : Seen) : Type 0 where
+  pub text : List ℕ
+  pub answers : AnswersLine p line before after text
+  pub breaks : Breaks old new text none
+
+abbrev pub TurnGives : Program → List ℕ → DeviceState → DeviceState → Seen → Seen → Result ⊤ Ended → Type 0
+TurnGives p line before after old new (Ok x) = Turns p line before after old new
+TurnGives p line before after old new (Err ended_by.Memory) = Does old new [] [] none
+TurnGives p line before after old new (Err ended_by.Output) = TurnBreaks p line before after old new
+
+-- The program part of this program and its separator were read, and nothing else was done.
+pub record Starts (a b : Seen) (p : Program) (r : Reader) (device : DeviceState) : Type 0 where
+  pub read : List ℕ
+  pub front : List (List ℕ)
+  pub head : List (List ℕ)
+  pub plain : ArePlain head
+  pub divides : (lines : List (List ℕ)) → divided (head ++ lines) ≡ Some (front, lines)
+  pub program : program_of (flat_map ended front) ≡ Some p
+  pub whole : read ≡ flat_map ended head ++ r.chunk
+  pub taken : r.taken ≡ length read
+  pub few : r.taken ≤ limit
+  pub does : Does a b read [] none
+  pub represents : Represents p (start_world p) device

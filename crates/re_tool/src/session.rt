@@ -1,0 +1,6 @@
+//! A whole run over a stream.
+#[derive(Clone, Copy, Debug, PartialEq, Eq)]
+pub enum Ended {
+    Memory,
+    Output,
+}
