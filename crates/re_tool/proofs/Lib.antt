@@ -1,6 +1,10 @@
 pub mod Clipping
+pub mod Orders
+pub mod Programs
 pub mod Parts
+pub mod Endings
 pub mod Reading
+pub mod Sessions
 pub mod Splits
 pub mod Bodies
 pub mod Devices

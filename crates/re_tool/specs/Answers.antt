@@ -71,14 +71,14 @@ session_of read failed = session_in (part_of read failed)
 abbrev pub ending : List ℕ → Bool → Status
 ending read failed = if is_over read then status.TooLong else if failed then status.Input else status.Done
 
+abbrev pub status_with : Option Program → Status → Status
+status_with None s = status.Program
+status_with (Some p) s = s
+
 -- a program part that was read whole and is no program ends the run
 abbrev pub status_in : Option Part → Status → Status
 status_in None s = s
-status_in (Some part) s = by_program (program_of part.text)
-  where
-    by_program : Option Program → Status
-    by_program None = status.Program
-    by_program (Some p) = s
+status_in (Some part) s = status_with (program_of part.text) s
 
 abbrev pub status_of : List ℕ → Bool → Status
 status_of read failed = status_in (part_of read failed) (ending read failed)

@@ -1,5 +1,5 @@
 -- What a whole run does.
-use Rattle.std.specs.Prelude.{ℕ, ◌≡◌, ◌≤◌, ◌+◌, ◌++◌, ◌⊎◌, length, List, [], Bool, true, false, IsSome}
+use Rattle.std.specs.Prelude.{ℕ, ◌≡◌, ◌≤◌, ◌+◌, ◌++◌, ◌⊎◌, length, List, [], Bool, true, false, Option, Some, None, IsSome}
 use Rattle.re_outside.specs.Outside.{Seen, Does, Breaks, IsAtEnd, Faults, none}
 use Rattle.re_tool.specs.declared.status.Status.{Status}
 use Rattle.re_tool.specs.declared.status.Status.TheVariants as status
@@ -7,7 +7,7 @@ use Rattle.re_tool.specs.Acts.{OrderedIn}
 use Rattle.re_tool.specs.Lines.{split}
 use Rattle.re_tool.specs.Part.{divided}
 use Rattle.re_tool.specs.Reads.{limit}
-use Rattle.re_tool.specs.Answers.{Outcomes, answers, done, status_line}
+use Rattle.re_tool.specs.Answers.{Outcomes, Session, session_of, answers, done, status_line}
 
 abbrev pub is_output : Status → Bool
 is_output status.Output = true
@@ -35,11 +35,22 @@ Unanswered s lines = lines ≡ []
 abbrev pub HasSeparator : List ℕ → Type 0
 HasSeparator read = IsSome (divided (split read).0)
 
--- how far the input was read: to its end where the status is 0, and to the separator or the end where it is 3
-abbrev pub ReadFar : Status → List ℕ → Seen → Type 0
-ReadFar status.Done read new = IsAtEnd new
-ReadFar status.Program read new = HasSeparator read ⊎ IsAtEnd new
-ReadFar s read new = Unit {0}
+abbrev pub lines_of : Option Session → List (List ℕ)
+lines_of None = []
+lines_of (Some s) = s.lines
+
+-- no line was done before it was complete: there are as many whole lines behind the separator
+abbrev pub AreComplete : List ℕ → Outcomes → Type 0
+AreComplete read o = length (lines_of (done read o)) ≤ length (lines_of (session_of read true))
+
+-- how far the input was read: to its end where the status is 0, to the separator or the end where it is 3,
+-- and past each line that was done
+abbrev pub ReadFar : Status → List ℕ → Outcomes → Seen → Type 0
+ReadFar status.Done read o new = IsAtEnd new
+ReadFar status.Program read o new = HasSeparator read ⊎ IsAtEnd new
+ReadFar status.Memory read o new = AreComplete read o ⊎ IsAtEnd new
+ReadFar status.Output read o new = AreComplete read o ⊎ IsAtEnd new
+ReadFar s read o new = Unit {0}
 
 pub record Runs (old new : Seen) (s : Status) : Type 0 where
   -- the bytes that were taken, at most one over the limit
@@ -55,7 +66,7 @@ pub record Runs (old new : Seen) (s : Status) : Type 0 where
   pub unanswered : List (List ℕ)
   pub whole : Unanswered s unanswered
   pub ordered : OrderedIn old new (done read outcomes) outcomes.commands unanswered
-  pub far : ReadFar s read new
+  pub far : ReadFar s read outcomes new
 
 -- The last line is said, or a front of it.
 abbrev pub Finishes : Seen → Seen → Status → Status → Type 0

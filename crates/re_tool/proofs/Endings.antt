@@ -1,0 +1,219 @@
+-- How a session ends.
+use Rattle.std.proofs.Common.{arith, ◌≡◌, ◌≤◌, ◌<◌, ◌+◌, ◌-◌, ◌++◌, ◌∷◌, [], ℕ, List, length, take, sym, ◌∙◌, ap, subst, refl, Bool, true, false, Option, Some, None, append_assoc, add-zero, length-append, ◌⊎◌, inl, inr}
+use Rattle.std.specs.Prelude.{map, nat_lt, if◌then◌else◌, option_map}
+use Rattle.std.specs.List.{flat_map}
+use Rattle.std.proofs.lemmas.Bool.{lt-ltb, le-ltb}
+use Rattle.std.proofs.lemmas.List.{append-nil, take_at, length_push, map-append}
+use Rattle.re_outside.specs.Outside.{Seen, Does, Breaks, IsAtEnd, Faults, none, input_fault, output_fault, plus}
+use Rattle.re_outside.proofs.Does.{does_behind, does_as, at_end}
+use Rattle.re_terms.specs.declared.program.Program.{Program}
+use Rattle.re_terms.specs.World.{World, Outcome, start_world}
+use Rattle.re_tool.specs.declared.reader.Reader.{Reader}
+use Rattle.re_tool.specs.declared.status.Status.{Status}
+use Rattle.re_tool.specs.declared.status.Status.TheVariants as status
+use Rattle.re_tool.specs.Acts.{Ordered, OrderedIn}
+use Rattle.re_tool.specs.Answers.{Outcomes, Session, texts, lines_after, session_of, session_in, answers, done, close, status_line, status_of, status_in, status_with, ending, session_text, first_lines}
+use Rattle.re_tool.specs.Clipped.{Clipped}
+use Rattle.re_tool.specs.Device.{DeviceState}
+use Rattle.re_tool.specs.Grammar.{program_of}
+use Rattle.re_tool.specs.Lines.{split, ended, without_return}
+use Rattle.re_tool.specs.Part.{Part, part_of, is_over, last_lines}
+use Rattle.re_tool.specs.Reads.{Reads, Takes, limit}
+use Rattle.re_tool.specs.Serving.{Turns, TurnBreaks}
+use Rattle.re_tool.specs.Session.{Runs, AreComplete, lines_of}
+use Rattle.re_tool.proofs.Orders.{texts_more, texts_front, order_more, ordered_all, ordered_on, ordered_line, ordered_outcome}
+use Rattle.re_tool.proofs.Parts.{read_more, taken_more, does_more}
+use Rattle.re_tool.proofs.Sessions.{SoFar, Ready, Near, with_lines, says_more, session_at, session_cut, near_ordered, size_more, session_last}
+use Rattle.re_tool.proofs.Splits.{split_lines, split_last}
+
+-- where there is a session, the program part doesn't end the run
+runs_on : (part : Option Part) (s : Status) (x : Session) → session_in part ≡ Some x → status_in part s ≡ s
+runs_on None s x h = absurd (cc)
+runs_on (Some part) s x h =
+    (elim (program_of part.text) as (λ o. option_map (λ p. let y : Session = record { program = p; lines = part.lines } in y) o ≡ Some x → status_with o s ≡ s) [ None ↦ λ h. absurd (cc) | Some q ↦ λ h. refl ]) h
+
+-- what a run says of a session that it came to the end of
+answers_to : (read : List ℕ) (failed : Bool) (p : Program) (lines : List (List ℕ)) (os : List Outcome) (s : Status) → session_of read failed ≡ with_lines p lines → ending read failed ≡ s
+    → answers read record { commands = os; input_failed = failed; stopped = None } ≡ close s (texts p (start_world p) lines os)
+answers_to read failed p lines os s is e =
+    ap (λ x. close x (session_text (session_of read failed) os)) (runs_on (part_of read failed) (ending read failed) (record { program = p; lines = lines }) is ∙ e)
+    ∙ ap (λ x. close s (session_text x os)) is
+
+ends_input : (read : List ℕ) → length read ≤ limit → ending read true ≡ status.Input
+ends_input read h = rw (le-ltb limit (length read) h) refl
+
+ends_done : (read : List ℕ) → length read ≤ limit → ending read false ≡ status.Done
+ends_done read h = rw (le-ltb limit (length read) h) refl
+
+ends_long : (read : List ℕ) (failed : Bool) → limit < length read → ending read failed ≡ status.TooLong
+ends_long read failed h = rw (lt-ltb limit (length read) h) refl
+
+at_least : (xs ys : List (List ℕ)) → length xs ≤ length (xs ++ ys)
+at_least xs ys = omega (arith, length-append xs ys)
+
+module _ (a b c : Seen) (p : Program) (r r' : Reader) (device : DeviceState) (line' : Clipped) (most : ℕ) (s : SoFar a b p r device) where
+  -- the input failed
+  pub near_failed : Reads r r' line' most b c [] input_fault → r'.taken ≤ limit → r'.chunk ≡ [] → Near a c status.Input
+  near_failed d few empty =
+      let lines = map without_return s.raws in
+      let read = s.read ++ d.bytes in
+      let short : length read ≤ limit = omega (arith, size_more a b c p r r' device line' most s d) in
+      let is : session_of read true ≡ with_lines p lines = session_last a b c p r r' device line' most s d few empty true ∙ ap (with_lines p) (append-nil lines) in
+      record {
+        read = read;
+        few = omega arith;
+        outcomes = record { commands = s.outcomes; input_failed = true; stopped = None };
+        text = texts p (start_world p) lines s.outcomes;
+        does = does_more a b c s.read d.bytes _ input_fault s.does d.does;
+        unanswered = [];
+        unsaid = refl;
+        ordered = subst (λ x. OrderedIn a c x s.outcomes []) (sym is) (near_ordered a b c p r r' device line' most s d.does);
+        answer = answers_to read true p lines s.outcomes status.Input is (ends_input read short);
+        complete = inl (omega arith);
+        far = tt;
+      }
+
+  -- too much input came
+  pub near_too_long : Reads r r' line' most b c [] none → r'.taken ≡ limit + 1 → length r'.chunk ≡ 1 → Near a c status.TooLong
+  near_too_long d long one =
+      let lines = map without_return s.raws in
+      let read = s.read ++ d.bytes in
+      let F = flat_map ended (s.head ++ s.raws) in
+      let whole : read ≡ (F ++ d.line) ++ r'.chunk = read_more F s.read r.chunk d.bytes d.line r'.chunk s.whole d.whole ∙ sym (append_assoc F d.line r'.chunk) in
+      let taken : r'.taken ≡ length read = size_more a b c p r r' device line' most s d in
+      let size : length (F ++ d.line) ≡ limit = omega (arith, ap length whole, length-append (F ++ d.line) r'.chunk) in
+      let over : limit < length read = omega arith in
+      let parts : split (take limit read) ≡ (s.head ++ s.raws, d.line) = ap split (ap (take limit) whole ∙ take_at (F ++ d.line) r'.chunk limit size) ∙ split_last (s.head ++ s.raws) d.line s.plain d.plain in
+      let cut : (failed : Bool) → session_of read failed ≡ with_lines p (lines ++ []) = λ failed. session_cut read failed s.front s.head s.raws d.line p over parts s.divides s.program in
+      let is : session_of read false ≡ with_lines p lines = cut false ∙ ap (with_lines p) (append-nil lines) in
+      record {
+        read = read;
+        few = omega arith;
+        outcomes = record { commands = s.outcomes; input_failed = false; stopped = None };
+        text = texts p (start_world p) lines s.outcomes;
+        does = does_more a b c s.read d.bytes _ none s.does d.does;
+        unanswered = [];
+        unsaid = refl;
+        ordered = subst (λ x. OrderedIn a c x s.outcomes []) (sym is) (near_ordered a b c p r r' device line' most s d.does);
+        answer = answers_to read false p lines s.outcomes status.TooLong is (ends_long read false over);
+        complete = inl (omega (arith, ap (λ x. length (lines_of x)) (cut false ∙ sym (cut true))));
+        far = tt;
+      }
+
+  -- memory ran out while a line was read
+  pub near_halted : Takes r r' b c → r'.taken ≤ limit → Near a c status.Memory
+  near_halted d few =
+      let lines = map without_return s.raws in
+      let n = length lines in
+      let read = s.read ++ d.bytes in
+      let rest = r.chunk ++ d.bytes in
+      let short : length read ≤ limit = omega (arith, taken_more r.taken r'.taken s.read d.bytes s.taken d.taken) in
+      let whole : read ≡ flat_map ended (s.head ++ s.raws) ++ rest = ap (λ l. l ++ d.bytes) s.whole ∙ append_assoc (flat_map ended (s.head ++ s.raws)) r.chunk d.bytes in
+      let parts : split read ≡ (s.head ++ (s.raws ++ (split rest).0), (split rest).1) = ap split whole ∙ split_lines (s.head ++ s.raws) rest s.plain ∙ ap (λ l. (l, (split rest).1)) (append_assoc s.head s.raws (split rest).0) in
+      let session : (failed : Bool) → session_of read failed ≡ with_lines p (lines ++ (map without_return (split rest).0 ++ last_lines failed (split rest).1)) =
+          λ failed. session_at read failed s.front s.head (s.raws ++ (split rest).0) (split rest).1 p short parts s.divides s.program
+          ∙ ap (with_lines p) (ap (λ l. l ++ last_lines failed (split rest).1) (map-append without_return s.raws (split rest).0) ∙ append_assoc lines (map without_return (split rest).0) (last_lines failed (split rest).1)) in
+      let is : first_lines n (session_of read false) ≡ with_lines p lines = ap (first_lines n) (session false) ∙ ap (with_lines p) (take_at lines (map without_return (split rest).0 ++ (split rest).1 ∷ []) n refl) in
+      record {
+        read = read;
+        few = omega arith;
+        outcomes = record { commands = s.outcomes; input_failed = false; stopped = Some (n, true) };
+        text = texts p (start_world p) lines s.outcomes;
+        does = does_more a b c s.read d.bytes _ none s.does d.does;
+        unanswered = [];
+        unsaid = omega arith;
+        ordered = subst (λ x. OrderedIn a c x s.outcomes []) (sym is) (near_ordered a b c p r r' device line' most s d.does);
+        answer = ap (λ x. close status.Memory (session_text x s.outcomes)) is;
+        complete = inl (omega (arith, ap (λ x. length (lines_of x)) is, ap (λ x. length (lines_of x)) (session true), at_least lines (map without_return (split rest).0 ++ [])));
+        far = inl (omega (arith, ap (λ x. length (lines_of x)) is, ap (λ x. length (lines_of x)) (session true), at_least lines (map without_return (split rest).0 ++ [])));
+      }
+
+at_front : (xs : List (List ℕ)) (x : List ℕ) (ys : List (List ℕ)) → take (length xs + 1) (xs ++ x ∷ ys) ≡ xs ++ x ∷ []
+at_front xs x ys = ap (take (length xs + 1)) (sym (append_assoc xs (x ∷ []) ys)) ∙ take_at (xs ++ x ∷ []) ys (length xs + 1) (length_push xs x)
+
+module _ (a c e : Seen) (p : Program) (device : DeviceState) (line : List ℕ) (q : Ready a c p device line) where
+  -- the session of the lines with this one
+  with_this : first_lines (length q.lines + 1) (session_of q.read false) ≡ with_lines p (q.lines ++ line ∷ [])
+  with_this = ap (first_lines (length q.lines + 1)) q.session ∙ ap (with_lines p) (at_front q.lines line q.more)
+
+  -- the session of the lines without this one
+  without_this : first_lines (length q.lines + 1 - 1) (session_of q.read false) ≡ with_lines p q.lines
+  without_this = ap (first_lines (length q.lines + 1 - 1)) q.session ∙ ap (with_lines p) (take_at q.lines (line ∷ q.more) (length q.lines + 1 - 1) (omega arith))
+
+  ordered_with : (os : List Outcome) {bytes text : List ℕ} {f : Faults} → Does c e bytes text f → os ≡ q.outcomes → Ordered a e p (q.lines ++ line ∷ []) os (line ∷ [])
+  ordered_with os d h =
+      subst (λ x. Ordered a e p (q.lines ++ line ∷ []) x (line ∷ [])) (sym h)
+          (ordered_line a e p q.lines line q.outcomes
+              (ordered_on a c e p q.lines [] q.outcomes _ _ _ (ordered_on a q.mid c p q.lines [] q.outcomes _ _ _ (ordered_all a q.mid p q.lines q.outcomes q.order) q.noise.moves) d.moves))
+
+  complete_with : {text : List ℕ} {f : Faults} (n : ℕ) → n ≡ length q.lines + 1 → Does c e [] text f → (length (lines_of (first_lines n (session_of q.read false))) ≤ length (lines_of (session_of q.read true))) ⊎ IsAtEnd e
+  complete_with {text} {f} n h d = cases q.complete
+    where
+      count : length (lines_of (first_lines n (session_of q.read false))) ≡ length q.lines + 1
+      count = ap (λ k. length (lines_of (first_lines k (session_of q.read false)))) h ∙ ap (λ x. length (lines_of x)) with_this ∙ length_push q.lines line
+      cases : (length q.lines + 1 ≤ length (lines_of (session_of q.read true))) ⊎ IsAtEnd c → (length (lines_of (first_lines n (session_of q.read false))) ≤ length (lines_of (session_of q.read true))) ⊎ IsAtEnd e
+      cases (inl k) = inl (omega (arith, count))
+      cases (inr end) = inr (at_end c e text f d end)
+
+  -- memory ran out for the answer
+  pub near_memory : Does c e [] [] none → Near a e status.Memory
+  near_memory d = record {
+    read = q.read;
+    few = omega (arith, q.few);
+    outcomes = record { commands = q.outcomes; input_failed = false; stopped = Some (length q.lines + 1, false) };
+    text = texts p (start_world p) q.lines q.outcomes;
+    does = says_more a c e q.read _ [] _ q.does d (sym (append-nil _));
+    unanswered = line ∷ [];
+    unsaid = omega arith;
+    ordered = subst (λ x. OrderedIn a e x q.outcomes (line ∷ [])) (sym with_this) (ordered_with q.outcomes d refl);
+    answer = ap (λ x. close status.Memory (session_text x q.outcomes)) without_this;
+    complete = complete_with (length q.lines + 1) refl d;
+    far = complete_with (length q.lines + 1) refl d;
+  }
+
+  -- an answer broke off
+  pub runs_output : (device' : DeviceState) → TurnBreaks p line device device' c e → Runs a e status.Output
+  runs_output device' t =
+      let w = lines_after p (start_world p) q.lines q.outcomes in
+      let o = t.answers.outcome in
+      let d = t.breaks in
+      record {
+        read = q.read;
+        few = omega (arith, q.few);
+        outcomes = record { commands = q.outcomes ++ o ∷ []; input_failed = false; stopped = Some (length q.lines + 1, true) };
+        text = texts p (start_world p) q.lines q.outcomes ++ d.front;
+        does = does_behind a c e q.read (texts p (start_world p) q.lines q.outcomes) d.front none (plus none output_fault) q.does d.does;
+        tells = (
+          d.rest ++ status_line status.Memory,
+          ap (λ x. session_text x (q.outcomes ++ o ∷ []) ++ status_line status.Memory) with_this
+              ∙ ap (λ x. x ++ status_line status.Memory) (texts_more p (start_world p) q.lines line q.outcomes o q.same ∙ ap (λ x. texts p (start_world p) q.lines q.outcomes ++ x) (sym (t.answers.says w q.represents) ∙ d.whole))
+              ∙ simp append_assoc,
+        );
+        unanswered = line ∷ [];
+        whole = omega arith;
+        ordered = subst (λ x. OrderedIn a e x (q.outcomes ++ o ∷ []) (line ∷ [])) (sym with_this) (ordered_outcome a e p (q.lines ++ line ∷ []) (line ∷ []) q.outcomes o (ordered_with q.outcomes d.does refl));
+        far = complete_with (length q.lines + 1) refl d.does;
+      }
+
+  -- the last line is done
+  pub runs_done : (device' : DeviceState) → q.more ≡ [] → IsAtEnd c → Turns p line device device' c e → Runs a e status.Done
+  runs_done device' last end t =
+      let w = lines_after p (start_world p) q.lines q.outcomes in
+      let o = t.answers.outcome in
+      let lines = q.lines ++ line ∷ [] in
+      let os = q.outcomes ++ o ∷ [] in
+      let is : session_of q.read false ≡ with_lines p lines = q.session ∙ ap (λ l. with_lines p (q.lines ++ line ∷ l)) last in
+      let text : t.text ≡ _ = t.answers.says w q.represents in
+      let answer = answers_to q.read false p lines os status.Done is (ends_done q.read q.few) in
+      record {
+        read = q.read;
+        few = omega (arith, q.few);
+        outcomes = record { commands = os; input_failed = false; stopped = None };
+        text = texts p (start_world p) lines os;
+        does = says_more a c e q.read _ t.text _ q.does t.does (texts_more p (start_world p) q.lines line q.outcomes o q.same ∙ ap (λ x. texts p (start_world p) q.lines q.outcomes ++ x) (sym text));
+        tells = (ap (λ (x : List ℕ × Status). x.0) answer ∙ append-nil _, ap (λ (x : List ℕ × Status). x.1) answer);
+        unanswered = [];
+        whole = refl;
+        ordered = subst (λ x. OrderedIn a e x os []) (sym is) (ordered_all a e p lines os (order_more a q.mid c e p q.lines line q.ahead t.text q.outcomes o q.same q.order q.noise t.act text));
+        far = at_end c e _ _ t.does end;
+      }

@@ -1,0 +1,259 @@
+-- A session, line by line.
+use Rattle.std.proofs.Common.{arith, ◌≡◌, ◌≤◌, ◌<◌, ◌+◌, ◌-◌, ◌++◌, ◌∷◌, [], ℕ, List, length, take, sym, ◌∙◌, ap, subst, refl, Bool, true, false, Option, Some, None, append_assoc, add-zero, length-append, ◌⊎◌, inl, inr}
+use Rattle.std.specs.Prelude.{map, nat_lt, if◌then◌else◌}
+use Rattle.std.specs.List.{flat_map}
+use Rattle.std.proofs.lemmas.Bool.{lt-ltb, le-ltb}
+use Rattle.std.proofs.lemmas.List.{append-nil, take_at, take_all, length_push, map-append, length-map}
+use Rattle.re_outside.specs.Outside.{Seen, Does, Breaks, IsAtEnd, Faults, none, input_fault, output_fault, plus}
+use Rattle.re_outside.proofs.Does.{does-nil, does_behind, does_well, does_read, does_as, at_end, plus-none, none-plus}
+use Rattle.re_terms.specs.declared.program.Program.{Program}
+use Rattle.re_terms.specs.World.{World, Outcome, start_world}
+use Rattle.re_tool.specs.declared.reader.Reader.{Reader}
+use Rattle.re_tool.specs.declared.status.Status.{Status}
+use Rattle.re_tool.specs.declared.status.Status.TheVariants as status
+use Rattle.re_tool.specs.Acts.{Order, Ordered, OrderedIn, ActOn}
+use Rattle.re_tool.specs.Answers.{Outcomes, Session, texts, lines_after, line_text, line_after, session_of, session_in, answers, done, close, status_line, status_of, ending, session_text, first_lines}
+use Rattle.re_tool.specs.Clipped.{Clipped, clipped}
+use Rattle.re_tool.specs.Commands.{line_of}
+use Rattle.re_tool.specs.Device.{DeviceState, Represents}
+use Rattle.re_tool.specs.Grammar.{program_of}
+use Rattle.re_tool.specs.Lines.{split, ended, IsPlain, ArePlain, without_return}
+use Rattle.re_tool.specs.Part.{Part, divided, part_of, part_in, is_over, last_lines}
+use Rattle.re_tool.specs.Reads.{Reads, Takes, limit}
+use Rattle.re_tool.specs.Serving.{AnswersLine, Turns, TurnBreaks, Starts}
+use Rattle.re_tool.specs.Session.{Runs, Unanswered, Finishes, AreComplete, ReadFar, lines_of, faults_of}
+use Rattle.re_tool.proofs.Orders.{texts_more, texts_front, after-append, order_nil, order_more, ordered_all, ordered_on, ordered_line, ordered_outcome}
+use Rattle.re_tool.proofs.Parts.{read_more, taken_more, does_more}
+use Rattle.re_tool.proofs.Programs.{line-kept, line-kept_last}
+use Rattle.re_tool.proofs.Splits.{plain_more, split_lines, split_last, flat_more, part_short, part_long}
+
+-- the session of a program and of lines
+abbrev pub with_lines : Program → List (List ℕ) → Option Session
+with_lines p lines = Some (record { program = p; lines = lines })
+
+-- What was done so far, between two lines.
+pub record SoFar (a b : Seen) (p : Program) (r : Reader) (device : DeviceState) : Type 0 where
+  pub front : List (List ℕ)
+  pub head : List (List ℕ)
+  pub raws : List (List ℕ)
+  pub outcomes : List Outcome
+  pub read : List ℕ
+  pub same : length outcomes ≡ length (map without_return raws)
+  pub plain : ArePlain (head ++ raws)
+  pub divides : (lines : List (List ℕ)) → divided (head ++ lines) ≡ Some (front, lines)
+  pub program : program_of (flat_map ended front) ≡ Some p
+  pub whole : read ≡ flat_map ended (head ++ raws) ++ r.chunk
+  pub taken : r.taken ≡ length read
+  pub few : r.taken ≤ limit
+  pub does : Does a b read (texts p (start_world p) (map without_return raws) outcomes) none
+  pub represents : Represents p (lines_after p (start_world p) (map without_return raws) outcomes) device
+  -- the last answer's step, and what was read behind it
+  pub mid : Seen
+  pub order : Order a mid p (map without_return raws) outcomes
+  pub ahead : List ℕ
+  pub noise : Does mid b ahead [] none
+
+-- The same with a line in hand.
+pub record Ready (a b : Seen) (p : Program) (device : DeviceState) (line : List ℕ) : Type 0 where
+  pub lines : List (List ℕ)
+  pub outcomes : List Outcome
+  pub read : List ℕ
+  pub more : List (List ℕ)
+  pub same : length outcomes ≡ length lines
+  pub session : session_of read false ≡ with_lines p (lines ++ line ∷ more)
+  pub few : length read ≤ limit
+  -- the line is a whole one, or the input is at its end
+  pub complete : (length lines + 1 ≤ length (lines_of (session_of read true))) ⊎ IsAtEnd b
+  pub does : Does a b read (texts p (start_world p) lines outcomes) none
+  pub represents : Represents p (lines_after p (start_world p) lines outcomes) device
+  pub mid : Seen
+  pub order : Order a mid p lines outcomes
+  pub ahead : List ℕ
+  pub noise : Does mid b ahead [] none
+
+-- All is said but the last line.
+pub record Near (a b : Seen) (s : Status) : Type 0 where
+  pub read : List ℕ
+  pub few : length read ≤ limit + 1
+  pub outcomes : Outcomes
+  pub text : List ℕ
+  pub does : Does a b read text (faults_of outcomes.input_failed false)
+  pub unanswered : List (List ℕ)
+  pub unsaid : Unanswered s unanswered
+  pub ordered : OrderedIn a b (done read outcomes) outcomes.commands unanswered
+  pub answer : answers read outcomes ≡ close s text
+  pub complete : AreComplete read outcomes ⊎ IsAtEnd b
+  pub far : ReadFar s read outcomes b
+
+pub starts_so_far : (a b : Seen) (p : Program) (r : Reader) (device : DeviceState) → Starts a b p r device → SoFar a b p r device
+starts_so_far a b p r device s = record {
+  front = s.front;
+  head = s.head;
+  raws = [];
+  outcomes = [];
+  read = s.read;
+  same = refl;
+  plain = subst ArePlain (sym (append-nil s.head)) s.plain;
+  divides = s.divides;
+  program = s.program;
+  whole = s.whole ∙ ap (λ l. flat_map ended l ++ r.chunk) (sym (append-nil s.head));
+  taken = s.taken;
+  few = s.few;
+  does = s.does;
+  represents = s.represents;
+  mid = a;
+  order = order_nil a p;
+  ahead = s.read;
+  noise = s.does;
+}
+
+-- the session of lines behind a separator
+pub session_at : (read : List ℕ) (failed : Bool) (front head raws : List (List ℕ)) (rest : List ℕ) (p : Program) → length read ≤ limit → split read ≡ (head ++ raws, rest) → ((lines : List (List ℕ)) → divided (head ++ lines) ≡ Some (front, lines)) → program_of (flat_map ended front) ≡ Some p
+    → session_of read failed ≡ with_lines p (map without_return raws ++ last_lines failed rest)
+session_at read failed front head raws rest p few parts divides program =
+    let part : Part = record { text = flat_map ended front; lines = map without_return raws ++ last_lines failed rest } in
+    let is : part_in (head ++ raws, rest) failed ≡ Some part = rw (divides raws) refl in
+    let begun : session_in (Some part) ≡ with_lines p (map without_return raws ++ last_lines failed rest) = rw program refl in
+    ap session_in (part_short read failed few ∙ ap (λ q. part_in q failed) parts ∙ is) ∙ begun
+
+-- the same of bytes that are cut at the limit
+pub session_cut : (read : List ℕ) (failed : Bool) (front head raws : List (List ℕ)) (rest : List ℕ) (p : Program) → limit < length read → split (take limit read) ≡ (head ++ raws, rest) → ((lines : List (List ℕ)) → divided (head ++ lines) ≡ Some (front, lines)) → program_of (flat_map ended front) ≡ Some p
+    → session_of read failed ≡ with_lines p (map without_return raws ++ [])
+session_cut read failed front head raws rest p over parts divides program =
+    let part : Part = record { text = flat_map ended front; lines = map without_return raws ++ [] } in
+    let is : part_in (head ++ raws, rest) true ≡ Some part = rw (divides raws) refl in
+    let begun : session_in (Some part) ≡ with_lines p (map without_return raws ++ []) = rw program refl in
+    ap session_in (part_long read failed over ∙ ap (λ q. part_in q true) parts ∙ is) ∙ begun
+
+raws_more : (raws : List (List ℕ)) (line : List ℕ) (more : List (List ℕ)) → map without_return (raws ++ line ∷ more) ≡ map without_return raws ++ without_return line ∷ map without_return more
+raws_more raws line more = map-append without_return raws (line ∷ more)
+
+-- the same line in other words
+pub answers_as : (p : Program) (line line' : List ℕ) (before after : DeviceState) (text : List ℕ) → line_of p line ≡ line_of p line' → AnswersLine p line before after text → AnswersLine p line' before after text
+answers_as p line line' before after text e q = record {
+  outcome = q.outcome;
+  says = λ w h. q.says w h ∙ ap (λ l. line_text p w l q.outcome) e;
+  world = λ w h. subst (λ l. Represents p (line_after p w l q.outcome) after) e (q.world w h);
+}
+
+pub turns_as : (p : Program) (line line' : List ℕ) (before after : DeviceState) (a b : Seen) → line_of p line ≡ line_of p line' → Turns p line before after a b → Turns p line' before after a b
+turns_as p line line' before after a b e q = record { text = q.text; answers = answers_as p line line' before after q.text e q.answers; act = q.act; does = q.does }
+
+pub breaks_as : (p : Program) (line line' : List ℕ) (before after : DeviceState) (a b : Seen) → line_of p line ≡ line_of p line' → TurnBreaks p line before after a b → TurnBreaks p line' before after a b
+breaks_as p line line' before after a b e q = record { text = q.text; answers = answers_as p line line' before after q.text e q.answers; breaks = q.breaks }
+
+-- a text more is said
+pub says_more : (a b c : Seen) (read text more text' : List ℕ) → Does a b read text none → Does b c [] more none → text' ≡ text ++ more → Does a c read text' none
+says_more a b c read text more text' d e h = does_as a c read _ _ none none (does_well a b c read text more none d e) (sym h) refl
+
+-- a line behind those that were done
+parts_line : (read : List ℕ) (head raws : List (List ℕ)) (line chunk : List ℕ) → ArePlain (head ++ raws) → IsPlain line → read ≡ flat_map ended (head ++ raws) ++ (line ++ 10 ∷ chunk) → split read ≡ (head ++ (raws ++ line ∷ (split chunk).0), (split chunk).1)
+parts_line read head raws line chunk plain here whole =
+    let e : ((head ++ raws) ++ line ∷ []) ++ (split chunk).0 ≡ head ++ (raws ++ line ∷ (split chunk).0) = simp append_assoc in
+    ap split (whole ∙ flat_more (head ++ raws) line chunk) ∙ split_lines ((head ++ raws) ++ line ∷ []) chunk (plain_more (head ++ raws) line plain here) ∙ ap (λ l. (l, (split chunk).1)) e
+
+lines_at : (raws : List (List ℕ)) (line : List ℕ) (more : List (List ℕ)) (rest : List (List ℕ)) → map without_return (raws ++ line ∷ more) ++ rest ≡ map without_return raws ++ without_return line ∷ (map without_return more ++ rest)
+lines_at raws line more rest = ap (λ l. l ++ rest) (raws_more raws line more) ∙ append_assoc (map without_return raws) (without_return line ∷ map without_return more) rest
+
+longer : (xs : List (List ℕ)) (x : List ℕ) (ys : List (List ℕ)) → length xs + 1 ≤ length (xs ++ x ∷ ys)
+longer xs x ys = omega (arith, length-append xs (x ∷ ys))
+
+module _ (a b c : Seen) (p : Program) (r r' : Reader) (device : DeviceState) (line' : Clipped) (most : ℕ) (s : SoFar a b p r device) where
+  lines_so_far : List (List ℕ)
+  lines_so_far = map without_return s.raws
+
+  pub size_more : {end : List ℕ} {f : Faults} → (d : Reads r r' line' most b c end f) → r'.taken ≡ length (s.read ++ d.bytes)
+  size_more d = taken_more r.taken r'.taken s.read d.bytes s.taken d.taken
+
+  whole_line : (d : Reads r r' line' most b c (10 ∷ []) none) → s.read ++ d.bytes ≡ flat_map ended (s.head ++ s.raws) ++ (d.line ++ 10 ∷ r'.chunk)
+  whole_line d = read_more (flat_map ended (s.head ++ s.raws)) s.read r.chunk d.bytes d.line (10 ∷ r'.chunk) s.whole d.whole
+
+  session_line : (d : Reads r r' line' most b c (10 ∷ []) none) → r'.taken ≤ limit → (failed : Bool)
+      → session_of (s.read ++ d.bytes) failed ≡ with_lines p (map without_return s.raws ++ without_return d.line ∷ (map without_return (split r'.chunk).0 ++ last_lines failed (split r'.chunk).1))
+  session_line d few failed =
+      session_at (s.read ++ d.bytes) failed s.front s.head (s.raws ++ d.line ∷ (split r'.chunk).0) (split r'.chunk).1 p (omega (arith, size_more d)) (parts_line (s.read ++ d.bytes) s.head s.raws d.line r'.chunk s.plain d.plain (whole_line d)) s.divides s.program
+      ∙ ap (with_lines p) (lines_at s.raws d.line (split r'.chunk).0 (last_lines failed (split r'.chunk).1))
+
+  -- a whole line is in hand
+  pub ready_line : (d : Reads r r' line' most b c (10 ∷ []) none) → r'.taken ≤ limit → Ready a c p device (without_return d.line)
+  ready_line d few = record {
+    lines = map without_return s.raws;
+    outcomes = s.outcomes;
+    read = s.read ++ d.bytes;
+    more = map without_return (split r'.chunk).0 ++ (split r'.chunk).1 ∷ [];
+    same = s.same;
+    session = session_line d few false;
+    few = omega (arith, size_more d);
+    complete = inl (rw (session_line d few true) (longer (map without_return s.raws) (without_return d.line) (map without_return (split r'.chunk).0 ++ [])));
+    does = does_more a b c s.read d.bytes _ none s.does d.does;
+    represents = s.represents;
+    mid = s.mid;
+    order = s.order;
+    ahead = s.ahead ++ d.bytes;
+    noise = does_more s.mid b c s.ahead d.bytes [] none s.noise d.does;
+  }
+
+  whole_last : {f : Faults} → (d : Reads r r' line' most b c [] f) → r'.chunk ≡ [] → s.read ++ d.bytes ≡ flat_map ended (s.head ++ s.raws) ++ d.line
+  whole_last d empty =
+      read_more (flat_map ended (s.head ++ s.raws)) s.read r.chunk d.bytes d.line r'.chunk s.whole d.whole ∙ ap (λ l. flat_map ended (s.head ++ s.raws) ++ (d.line ++ l)) empty ∙ ap (λ l. flat_map ended (s.head ++ s.raws) ++ l) (append-nil d.line)
+
+  pub session_last : {f : Faults} → (d : Reads r r' line' most b c [] f) → r'.taken ≤ limit → r'.chunk ≡ [] → (failed : Bool) → session_of (s.read ++ d.bytes) failed ≡ with_lines p (map without_return s.raws ++ last_lines failed d.line)
+  session_last d few empty failed =
+      session_at (s.read ++ d.bytes) failed s.front s.head s.raws d.line p (omega (arith, size_more d)) (ap split (whole_last d empty) ∙ split_last (s.head ++ s.raws) d.line s.plain d.plain) s.divides s.program
+
+  -- the last line is in hand
+  pub ready_end : (d : Reads r r' line' most b c [] none) → r'.taken ≤ limit → r'.chunk ≡ [] → IsAtEnd c → (q : Ready a c p device d.line) × (q.more ≡ [])
+  ready_end d few empty end = (
+    record {
+      lines = map without_return s.raws;
+      outcomes = s.outcomes;
+      read = s.read ++ d.bytes;
+      more = [];
+      same = s.same;
+      session = session_last d few empty false;
+      few = omega (arith, size_more d);
+      complete = inr end;
+      does = does_more a b c s.read d.bytes _ none s.does d.does;
+      represents = s.represents;
+      mid = s.mid;
+      order = s.order;
+      ahead = s.ahead ++ d.bytes;
+      noise = does_more s.mid b c s.ahead d.bytes [] none s.noise d.does;
+    },
+    refl,
+  )
+
+  -- a whole line is done
+  pub so_far_more : (e : Seen) (device' : DeviceState) → (d : Reads r r' line' most b c (10 ∷ []) none) → r'.taken ≤ limit → Turns p (without_return d.line) device device' c e → SoFar a e p r' device'
+  so_far_more e device' d few t =
+      let lines = map without_return s.raws in
+      let line = without_return d.line in
+      let w = lines_after p (start_world p) lines s.outcomes in
+      let lines_are : map without_return (s.raws ++ d.line ∷ []) ≡ lines ++ line ∷ [] = raws_more s.raws d.line [] in
+      let text = t.answers.says w s.represents in
+      record {
+        front = s.front;
+        head = s.head;
+        raws = s.raws ++ d.line ∷ [];
+        outcomes = s.outcomes ++ t.answers.outcome ∷ [];
+        read = s.read ++ d.bytes;
+        same = length_push s.outcomes t.answers.outcome ∙ ap (λ n. n + 1) s.same ∙ sym (length_push lines line) ∙ sym (ap length lines_are);
+        plain = subst ArePlain (append_assoc s.head s.raws (d.line ∷ [])) (plain_more (s.head ++ s.raws) d.line s.plain d.plain);
+        divides = s.divides;
+        program = s.program;
+        whole = whole_line d ∙ flat_more (s.head ++ s.raws) d.line r'.chunk ∙ ap (λ l. flat_map ended l ++ r'.chunk) (append_assoc s.head s.raws (d.line ∷ []));
+        taken = size_more d;
+        few = few;
+        does = says_more a c e (s.read ++ d.bytes) _ t.text _ (does_more a b c s.read d.bytes _ none s.does d.does) t.does
+            (ap (λ l. texts p (start_world p) l (s.outcomes ++ t.answers.outcome ∷ [])) lines_are ∙ texts_more p (start_world p) lines line s.outcomes t.answers.outcome s.same ∙ ap (λ x. texts p (start_world p) lines s.outcomes ++ x) (sym text));
+        represents = subst (λ v. Represents p v device') (sym (ap (λ l. lines_after p (start_world p) l (s.outcomes ++ t.answers.outcome ∷ [])) lines_are ∙ after-append p (start_world p) lines (line ∷ []) s.outcomes (t.answers.outcome ∷ []) s.same)) (t.answers.world w s.represents);
+        mid = e;
+        order = subst (λ l. Order a e p l (s.outcomes ++ t.answers.outcome ∷ [])) (sym lines_are)
+            (order_more a s.mid c e p lines line (s.ahead ++ d.bytes) t.text s.outcomes t.answers.outcome s.same s.order (does_more s.mid b c s.ahead d.bytes [] none s.noise d.does) t.act text);
+        ahead = [];
+        noise = does-nil e;
+      }
+
+module _ (a b c : Seen) (p : Program) (r r' : Reader) (device : DeviceState) (line' : Clipped) (most : ℕ) (s : SoFar a b p r device) where
+  pub near_ordered : {bytes text : List ℕ} {f : Faults} → Does b c bytes text f → Ordered a c p (map without_return s.raws) s.outcomes []
+  near_ordered d = ordered_on a b c p (map without_return s.raws) [] s.outcomes _ _ _ (ordered_on a s.mid b p (map without_return s.raws) [] s.outcomes _ _ _ (ordered_all a s.mid p (map without_return s.raws) s.outcomes s.order) s.noise.moves) d.moves
