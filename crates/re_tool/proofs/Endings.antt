@@ -20,7 +20,7 @@ use Rattle.re_tool.specs.Lines.{split, ended, without_return}
 use Rattle.re_tool.specs.Part.{Part, part_of, is_over, last_lines}
 use Rattle.re_tool.specs.Reads.{Reads, Takes, limit}
 use Rattle.re_tool.specs.Serving.{Turns, TurnBreaks}
-use Rattle.re_tool.specs.Session.{Runs, AreComplete, lines_of}
+use Rattle.re_tool.specs.Session.{Runs, Tells, Unanswered, Finishes, ReadFar, AreComplete, HasSeparator, lines_of, faults_of, is_output}
 use Rattle.re_tool.proofs.Orders.{texts_more, texts_front, order_more, ordered_all, ordered_on, ordered_line, ordered_outcome}
 use Rattle.re_tool.proofs.Parts.{read_more, taken_more, does_more}
 use Rattle.re_tool.proofs.Sessions.{SoFar, Ready, Near, with_lines, says_more, session_at, session_cut, near_ordered, size_more, session_last}
@@ -217,3 +217,119 @@ module _ (a c e : Seen) (p : Program) (device : DeviceState) (line : List ℕ) (
         ordered = subst (λ x. OrderedIn a e x os []) (sym is) (ordered_all a e p lines os (order_more a q.mid c e p q.lines line q.ahead t.text q.outcomes o q.same q.order q.noise t.act text));
         far = at_end c e _ _ t.does end;
       }
+
+none_is_few : (lines : List (List ℕ)) → lines ≡ [] → length lines ≤ 1
+none_is_few lines e = omega (arith, ap length e)
+
+at_most : (s : Status) (lines : List (List ℕ)) → Unanswered s lines → length lines ≤ 1
+at_most status.Output lines h = h
+at_most status.Memory lines h = h
+at_most status.Done lines h = none_is_few lines h
+at_most status.Words lines h = none_is_few lines h
+at_most status.Program lines h = none_is_few lines h
+at_most status.Store lines h = none_is_few lines h
+at_most status.OtherProgram lines h = none_is_few lines h
+at_most status.Disk lines h = none_is_few lines h
+at_most status.Input lines h = none_is_few lines h
+at_most status.TooLong lines h = none_is_few lines h
+at_most status.Line lines h = none_is_few lines h
+
+ordered_in_on : (a b c : Seen) (x : Option Session) (os : List Outcome) (others : List (List ℕ)) {r text : List ℕ} {f : Faults} → OrderedIn a b x os others → Does b c r text f → OrderedIn a c x os others
+ordered_in_on a b c None os others o d = o
+ordered_in_on a b c (Some s) os others o d = ordered_on a b c s.program s.lines others os _ _ _ o d.moves
+
+broken_plus : (f : Bool) → plus (faults_of f false) (plus none output_fault) ≡ faults_of f true
+broken_plus true = refl
+broken_plus false = refl
+
+well_plus : (f : Bool) → plus (faults_of f false) none ≡ faults_of f false
+well_plus true = refl
+well_plus false = refl
+
+far_on : (s : Status) (read : List ℕ) (o : Outcomes) (b c : Seen) {text : List ℕ} {f : Faults} → Does b c [] text f → ReadFar s read o b → ReadFar s read o c
+far_on status.Done read o b c d h = at_end b c _ _ d h
+far_on status.Program read o b c d (inl h) = inl h
+far_on status.Program read o b c d (inr h) = inr (at_end b c _ _ d h)
+far_on status.Memory read o b c d (inl h) = inl h
+far_on status.Memory read o b c d (inr h) = inr (at_end b c _ _ d h)
+far_on status.Output read o b c d (inl h) = inl h
+far_on status.Output read o b c d (inr h) = inr (at_end b c _ _ d h)
+far_on status.Words read o b c d h = h
+far_on status.Store read o b c d h = h
+far_on status.OtherProgram read o b c d h = h
+far_on status.Disk read o b c d h = h
+far_on status.Input read o b c d h = h
+far_on status.TooLong read o b c d h = h
+far_on status.Line read o b c d h = h
+
+-- a status that isn't 8 is told with all of the answers
+tells_all : (s : Status) (a : List ℕ × Status) (text : List ℕ) → (s ≡ status.Output → ⊥) → a.0 ≡ text → a.1 ≡ s → Tells a text s
+tells_all status.Output a text h p q = absurd (h refl)
+tells_all status.Done a text h p q = (p, q)
+tells_all status.Words a text h p q = (p, q)
+tells_all status.Program a text h p q = (p, q)
+tells_all status.Store a text h p q = (p, q)
+tells_all status.OtherProgram a text h p q = (p, q)
+tells_all status.Disk a text h p q = (p, q)
+tells_all status.Input a text h p q = (p, q)
+tells_all status.Memory a text h p q = (p, q)
+tells_all status.TooLong a text h p q = (p, q)
+tells_all status.Line a text h p q = (p, q)
+
+not_output : (s : Status) → (s ≡ status.Output → ⊥) → is_output s ≡ false
+not_output status.Output h = absurd (h refl)
+not_output status.Done h = refl
+not_output status.Words h = refl
+not_output status.Program h = refl
+not_output status.Store h = refl
+not_output status.OtherProgram h = refl
+not_output status.Disk h = refl
+not_output status.Input h = refl
+not_output status.Memory h = refl
+not_output status.TooLong h = refl
+not_output status.Line h = refl
+
+module _ (a b c : Seen) (s : Status) (n : Near a b s) where
+  -- the last line is said whole
+  near_said : (s ≡ status.Output → ⊥) → Does b c [] (status_line s) none → Runs a c s
+  near_said h d = record {
+    read = n.read;
+    few = n.few;
+    outcomes = n.outcomes;
+    text = n.text ++ status_line s;
+    does = subst (Does a c n.read (n.text ++ status_line s)) (well_plus n.outcomes.input_failed ∙ ap (faults_of n.outcomes.input_failed) (sym (not_output s h))) (does_behind a b c n.read n.text (status_line s) _ none n.does d);
+    tells = tells_all s (answers n.read n.outcomes) (n.text ++ status_line s) h (ap (λ (x : List ℕ × Status). x.0) n.answer) (ap (λ (x : List ℕ × Status). x.1) n.answer);
+    unanswered = n.unanswered;
+    whole = n.unsaid;
+    ordered = ordered_in_on a b c (done n.read n.outcomes) n.outcomes.commands n.unanswered n.ordered d;
+    far = far_on s n.read n.outcomes b c d n.far;
+  }
+
+  -- the last line breaks off
+  near_broke : Breaks b c (status_line s) none → Runs a c status.Output
+  near_broke d = record {
+    read = n.read;
+    few = n.few;
+    outcomes = n.outcomes;
+    text = n.text ++ d.front;
+    does = subst (Does a c n.read (n.text ++ d.front)) (broken_plus n.outcomes.input_failed) (does_behind a b c n.read n.text d.front _ _ n.does d.does);
+    tells = (d.rest, ap (λ (x : List ℕ × Status). x.0) n.answer ∙ ap (λ t. n.text ++ t) d.whole ∙ sym (append_assoc n.text d.front d.rest));
+    unanswered = n.unanswered;
+    whole = at_most s n.unanswered n.unsaid;
+    ordered = ordered_in_on a b c (done n.read n.outcomes) n.outcomes.commands n.unanswered n.ordered d.does;
+    far = far_on status.Output n.read n.outcomes b c d.does n.complete;
+  }
+
+  -- the last line is said, or breaks off
+  pub near_finish : (x : Status) → (s ≡ status.Output → ⊥) → Finishes b c s x → Runs a c x
+  near_finish status.Output h d = near_broke d
+  near_finish status.Done h d = subst (Runs a c) (sym d.0) (near_said h d.1)
+  near_finish status.Words h d = subst (Runs a c) (sym d.0) (near_said h d.1)
+  near_finish status.Program h d = subst (Runs a c) (sym d.0) (near_said h d.1)
+  near_finish status.Store h d = subst (Runs a c) (sym d.0) (near_said h d.1)
+  near_finish status.OtherProgram h d = subst (Runs a c) (sym d.0) (near_said h d.1)
+  near_finish status.Disk h d = subst (Runs a c) (sym d.0) (near_said h d.1)
+  near_finish status.Input h d = subst (Runs a c) (sym d.0) (near_said h d.1)
+  near_finish status.Memory h d = subst (Runs a c) (sym d.0) (near_said h d.1)
+  near_finish status.TooLong h d = subst (Runs a c) (sym d.0) (near_said h d.1)
+  near_finish status.Line h d = subst (Runs a c) (sym d.0) (near_said h d.1)
