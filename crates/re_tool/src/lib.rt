@@ -2,6 +2,10 @@
 #![tactic(auto)]
 
 pub mod command;
+pub mod faults;
+pub mod look_up;
 pub mod names;
 pub mod patterns;
+pub mod reading;
+pub mod sums;
 pub mod tokens;
