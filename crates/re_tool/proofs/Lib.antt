@@ -1,2 +1,4 @@
+pub mod Adding
 pub mod Marks
 pub mod NameTables
+pub mod Splitting
