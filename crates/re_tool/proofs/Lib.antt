@@ -11,5 +11,7 @@ pub mod Devices
 pub mod Evaluated
 pub mod Marking
 pub mod Sums
+pub mod Adding
 pub mod Marks
 pub mod NameTables
+pub mod Splitting

@@ -190,12 +190,15 @@ statement_of earlier (first ∷ marks) = do
   b ← body_of earlier first name.1
   Some (declared name.0 b)
 
--- a declaration may follow these: the device is the first and the only one, no two names are equal, and there are at most 512 declarations and 256 vars
-abbrev pub may_follow : List Decl → Decl → Bool
-may_follow earlier d = bool_eq (is_device d.body) (length earlier == 0)
-    && not (is_some (place_of (names_in earlier) d.name.items))
+-- there is room for this behind earlier declarations: the device is the first and the only one, and there are at most 512 declarations and 256 vars
+abbrev pub has_room : List Decl → Body → Bool
+has_room earlier b = bool_eq (is_device b) (length earlier == 0)
     && nat_lt (length earlier) 512
-    && (not (is_var d.body) || nat_lt (count_by (λ e. is_var e.body) earlier) 256)
+    && (not (is_var b) || nat_lt (count_by (λ e. is_var e.body) earlier) 256)
+
+-- a declaration may follow these: there is room for it, and its name is new
+abbrev pub may_follow : List Decl → Decl → Bool
+may_follow earlier d = has_room earlier d.body && not (is_some (place_of (names_in earlier) d.name.items))
 
 -- the earlier declarations and the one that a statement is
 abbrev pub declared_next : List Decl → List Mark → Option (List Decl)

@@ -4,6 +4,7 @@ pub mod Built
 pub mod Clipped
 pub mod Commands
 pub mod Device
+pub mod Faults
 pub mod Grammar
 pub mod Lines
 pub mod Names
@@ -16,4 +17,5 @@ pub mod Serving
 pub mod Session
 pub mod Status
 pub mod Texts
+pub mod Table
 pub mod Tokens

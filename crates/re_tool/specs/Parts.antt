@@ -1,5 +1,5 @@
 -- The marks before a sign and those behind it.
-use Rattle.std.specs.Prelude.{ℕ, ◌+◌, List, [], ◌∷◌, take, drop, position, Option, Some, None}
+use Rattle.std.specs.Prelude.{ℕ, suc, List, [], ◌∷◌, take, drop, position, Option, Some, None}
 use Rattle.std.specs.Borrow.{Bor}
 use Rattle.re_tool.specs.declared.tokens.Mark.{Mark as SourceMark}
 use Rattle.re_tool.specs.Tokens.{Mark}
@@ -8,7 +8,7 @@ use Rattle.re_tool.specs.Grammar.{is_sign}
 
 -- the marks before the first such sign, and those behind it where there is one
 abbrev pub part_at : List Mark → Option ℕ → List Mark × Option (List Mark)
-part_at marks (Some place) = (take place marks, Some (drop (place + 1) marks))
+part_at marks (Some place) = (take place marks, Some (drop (suc place) marks))
 part_at marks None = (marks, None)
 
 abbrev pub next_part : ℕ → List Mark → List Mark × Option (List Mark)

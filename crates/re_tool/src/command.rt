@@ -1,4 +1,19 @@
 //! The lines of a session.
+ghost use Rattle.std.specs.Prelude.{◌≡◌, ◌≤◌, length, IfOk};
+ghost use Rattle.re_tool.specs.Scanning.{plain_mark, plain_marks};
+ghost use Rattle.re_tool.specs.Grammar.{names_in, names_of};
+ghost use Rattle.re_tool.specs.Built.{IsBuilt};
+ghost use Rattle.re_tool.specs.Commands.{is_name, turn_of, get_of, command_of, line_of};
+
+use crate::look_up::{device_place, value_place, var_place};
+use crate::names::Names;
+use crate::patterns::{EQUALS, behind_sign, literal, named};
+use crate::tokens::{Mark, MarksFault, marks};
+use re_terms::{Decl, Program, Seq};
+use std::alloc::{AllocError, Global};
+
+/// How many bytes a line has at most.
+const MAX_LINE: usize = 1_024;
 
 /// What a line says. An id is a declaration's place in the program.
 #[derive(Clone, Copy, Debug, PartialEq, Eq)]
@@ -11,4 +26,89 @@ pub enum Line {
     Turn { id: u16, number: i64 },
     /// Asks for the word of a var or a signal.
     Get { id: u16 },
+}
+
+/// Whether a token is this name.
+fn is_name(mark: Mark<'_>, name: &[u8]) -> bool
+    ensures { result ≡ is_name name.now (plain_mark mark.entry) }
+{
+    match mark {
+        Mark::Name(other) => other == name,
+        _ => false,
+    }
+}
+
+/// Reads what stands behind `turn`.
+fn read_turn(marks: &[Mark<'_>], decls: &Seq<Decl>, names: &Names<'_>) -> Option<Line>
+    requires names { names.now ≡ names_in decls.now.items }
+    requires few { length decls.now.items ≤ 512 }
+    ensures { result ≡ turn_of decls.now.items (plain_marks marks.now) }
+{
+    let (device, marks) = named(marks)?;
+    let _device = device_place(decls, names, device)?;
+    let (name, marks) = named(marks)?;
+    let id = var_place(decls, names, name)?;
+    let number = literal(behind_sign(marks, EQUALS)?)?;
+    Some(Line::Turn {
+        id: id as u16,
+        number,
+    })
+}
+
+/// Reads what stands behind `get`.
+fn read_get(marks: &[Mark<'_>], decls: &Seq<Decl>, names: &Names<'_>) -> Option<Line>
+    requires names { names.now ≡ names_in decls.now.items }
+    requires few { length decls.now.items ≤ 512 }
+    ensures { result ≡ get_of decls.now.items (plain_marks marks.now) }
+{
+    let (device, marks) = named(marks)?;
+    let _device = device_place(decls, names, device)?;
+    let (name, marks) = named(marks)?;
+    let id = value_place(decls, names, name)?;
+    if marks.is_empty() {
+        Some(Line::Get { id: id as u16 })
+    } else {
+        None
+    }
+}
+
+/// Reads a command.
+fn read_command(marks: &[Mark<'_>], decls: &Seq<Decl>, names: &Names<'_>) -> Option<Line>
+    requires names { names.now ≡ names_in decls.now.items }
+    requires few { length decls.now.items ≤ 512 }
+    ensures { result ≡ command_of decls.now.items (plain_marks marks.now) }
+{
+    let [first, marks @ ..] = marks else {
+        return Some(Line::Blank);
+    };
+    if is_name(*first, b"turn") {
+        return read_turn(marks, decls, names);
+    }
+    if is_name(*first, b"get") {
+        return read_get(marks, decls, names);
+    }
+    None
+}
+
+/// Reads a line, its end removed. The names are the program's.
+///
+/// The one refusal is want of memory.
+pub fn read_line(
+    alloc: Global,
+    line: &[u8],
+    p: &Program,
+    names: &Names<'_>,
+) -> Result<Line, AllocError>
+    requires built { IsBuilt p.now }
+    requires names { names.now ≡ names_of p.now }
+    ensures { IfOk result (λ l. l ≡ line_of p.now line.now) }
+{
+    if line.len() > MAX_LINE {
+        return Ok(Line::Bad);
+    }
+    match marks(alloc, line) {
+        Ok(marks) => Ok(read_command(&marks, &p.decls, names).unwrap_or(Line::Bad)),
+        Err(MarksFault::NoToken) => Ok(Line::Bad),
+        Err(MarksFault::Memory) => Err(AllocError),
+    }
 }

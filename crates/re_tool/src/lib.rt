@@ -17,3 +17,11 @@ mod status;
 mod tokens;
 
 pub use status::Status;
+pub mod command;
+pub mod faults;
+pub mod look_up;
+pub mod names;
+pub mod patterns;
+pub mod reading;
+pub mod sums;
+pub mod tokens;

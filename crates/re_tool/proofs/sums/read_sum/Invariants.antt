@@ -1,0 +1,12 @@
+use Rattle.std.proofs.Common.{option_map}
+use Rattle.re_tool.specs.Scanning.{plain_marks}
+use Rattle.re_tool.specs.Parts.{plain_rest}
+use Rattle.re_tool.proofs.Adding.{Adds}
+use Rattle.re_tool.proofs.Splitting.{left_length}
+use Rattle.re_tool.proofs.sums.read_sum.Given as goal
+
+abbrev pub invariant-loop-left : goal.invariant-loop-left
+invariant-loop-left l = Adds l.decls.items (plain_marks l.marks) l.count l.sum (option_map plain_rest l.left)
+
+abbrev pub decreases-loop-left : goal.decreases-loop-left
+decreases-loop-left l = left_length (option_map plain_rest l.left)
