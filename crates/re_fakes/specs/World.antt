@@ -63,5 +63,5 @@ short w = record w { shorts = raised w.shorts }
 
 -- why the call of this number failed, and what it left: it stands in the list and its step was added, or there
 -- was no memory for a step
-abbrev pub Fails : Call → ℕ → World → World → Type 0
-Fails call number failed new = (IsSome (entry call number failed.fails) × (new ≡ noted call failed)) ⊎ (new ≡ short failed)
+abbrev pub FailsFor : Call → ℕ → World → World → Type 0
+FailsFor call number failed new = (IsSome (entry call number failed.fails) × (new ≡ noted call failed)) ⊎ (new ≡ short failed)

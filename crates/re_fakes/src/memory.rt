@@ -1,9 +1,9 @@
 //! The world in memory.
 ghost use Rattle.std.specs.Prelude.{◌≡◌, ◌≤◌, ◌<◌, ◌+◌, ◌++◌, [], ◌∷◌, length, take, min, IfOk, OnOk, OnErr, IsSome, IsNone, ◌⊎◌};
 ghost use Rattle.re_outside.specs.Listed.{plain};
-ghost use Rattle.re_outside.specs.Outside.{Moves, Does, IsAtEnd, none, input_fault, output_fault};
+ghost use Rattle.re_outside.specs.Outside.{Moves, Fails, IsAtEnd, none, input_fault, output_fault};
 ghost use Rattle.re_fakes.specs.Fails.{entry};
-ghost use Rattle.re_fakes.specs.World.{seen_of, new_world, taken, spoken, failed_take, failed_say, noted, short, Fails};
+ghost use Rattle.re_fakes.specs.World.{seen_of, new_world, taken, spoken, failed_take, failed_say, noted, short, FailsFor};
 
 use crate::files::entry;
 use crate::{Fail, Files};
@@ -136,12 +136,12 @@ impl Outside for MemoryWorld {
         ensures count { IfOk result (λ n. n ≤ length buf.old) }
         ensures given { IfOk result (λ n. Moves (seen_of self.old) (seen_of self.new) (take n buf.new) [] none) }
         ensures end { IfOk result (λ n. n ≡ 0 → 0 < length buf.old → IsAtEnd (seen_of self.new)) }
-        ensures failed { OnErr result (Does (seen_of self.old) (seen_of self.new) [] [] input_fault) }
+        ensures failed { OnErr result (Fails (seen_of self.old) (seen_of self.new) Call.Take input_fault) }
         ensures most { IfOk result (λ n. n ≡ min (length buf.old) (length self.old.left)) }
         ensures after { IfOk result (λ n. self.new ≡ taken n self.old) }
         ensures unlisted { OnOk result (IsNone (entry Call.Take (self.old.takes + 1) self.old.fails)) }
         ensures listed { OnErr result (IsSome (entry Call.Take (self.old.takes + 1) self.old.fails)) }
-        ensures cause { OnErr result (Fails Call.Take (self.old.takes + 1) (failed_take self.old) self.new) }
+        ensures cause { OnErr result (FailsFor Call.Take (self.old.takes + 1) (failed_take self.old) self.new) }
     {
         let listed = entry(self.fails.as_slice(), Call::Take, self.takes);
         self.takes = self.takes.saturating_add(1);
@@ -163,11 +163,11 @@ impl Outside for MemoryWorld {
         ensures count { IfOk result (λ n. n ≤ length bytes.now) }
         ensures some { 0 < length bytes.now → IfOk result (λ n. 0 < n) }
         ensures said { IfOk result (λ n. Moves (seen_of self.old) (seen_of self.new) [] (Step.Say (plain (take n bytes.now)) ∷ []) none) }
-        ensures failed { OnErr result (Does (seen_of self.old) (seen_of self.new) [] [] output_fault) }
+        ensures failed { OnErr result (Fails (seen_of self.old) (seen_of self.new) Call.Say output_fault) }
         ensures whole { IfOk result (λ n. n ≡ length bytes.now) }
         ensures after { OnOk result (self.new ≡ spoken bytes.now self.old) }
         ensures unlisted { OnOk result (IsNone (entry Call.Say (self.old.says + 1) self.old.fails)) }
-        ensures cause { OnErr result (Fails Call.Say (self.old.says + 1) (failed_say self.old) self.new) }
+        ensures cause { OnErr result (FailsFor Call.Say (self.old.says + 1) (failed_say self.old) self.new) }
     {
         let listed = entry(self.fails.as_slice(), Call::Say, self.says);
         self.says = self.says.saturating_add(1);

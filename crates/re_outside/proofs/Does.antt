@@ -1,8 +1,10 @@
 -- Steps one behind the other.
-use Rattle.std.proofs.Common.{arith, ℕ, ◌≡◌, ◌+◌, ◌≤◌, List, [], ◌∷◌, ◌++◌, take, drop, sym, ◌∙◌, ap, subst, refl, append_assoc}
+use Rattle.std.proofs.Common.{arith, ℕ, ◌≡◌, ◌+◌, ◌≤◌, List, [], ◌∷◌, ◌++◌, take, drop, sym, ◌∙◌, ap, subst, refl, inl, inr, append_assoc}
 use Rattle.std.proofs.lemmas.List.{append-nil, take-append-drop, take-take, drop-take}
 use Rattle.re_outside.specs.Listed.{plain}
-use Rattle.re_outside.specs.Outside.{said, Faults, none, output_fault, plus, Seen, Counts, Moves, Does, Breaks, IsAtEnd}
+use Rattle.re_outside.specs.Outside.{said, Faults, none, input_fault, output_fault, plus, Seen, Counts, Moves, IsOutput, AreOutputs, IsFailure, Fails, Does, Breaks, IsAtEnd}
+use Rattle.re_outside.specs.declared.step.Call.{Call}
+use Rattle.re_outside.specs.declared.step.Call.TheVariants as kind
 use Rattle.re_outside.specs.declared.step.Step.{Step}
 use Rattle.re_outside.specs.declared.step.Step.TheVariants.{Write, Cut, Sync, Say, Fail}
 
@@ -14,6 +16,15 @@ said-append (Write device file at bytes ∷ xs) ys = said-append xs ys
 said-append (Cut device file length ∷ xs) ys = said-append xs ys
 said-append (Sync device file ∷ xs) ys = said-append xs ys
 said-append (Fail call device file at bytes content ∷ xs) ys = said-append xs ys
+
+-- two parts that touch no file touch none one behind the other
+pub outputs-append : (xs ys : List Step) → AreOutputs xs → AreOutputs ys → AreOutputs (xs ++ ys)
+outputs-append [] ys p q = q
+outputs-append (Say bytes ∷ xs) ys p q = outputs-append xs ys p q
+outputs-append (Write device file at bytes ∷ xs) ys p q = absurd p
+outputs-append (Cut device file length ∷ xs) ys p q = absurd p
+outputs-append (Sync device file ∷ xs) ys p q = absurd p
+outputs-append (Fail call device file at bytes content ∷ xs) ys p q = (p.0, outputs-append xs ys p.1 q)
 
 -- a count over two parts
 counts-trans : (f g a b c : ℕ) → Counts f a b → Counts g b c → Counts (f + g) a c
@@ -39,6 +50,7 @@ pub does-nil : (a : Seen) → Does a a [] [] none
 does-nil a = record {
   steps = [];
   says = refl;
+  outputs = tt;
   moves = record {
     told = refl;
     left = λ t. refl;
@@ -53,6 +65,7 @@ does-nil a = record {
 pub does-trans : (a b c : Seen) (r r' t t' : List ℕ) (f g : Faults) → Does a b r t f → Does b c r' t' g → Does a c (r ++ r') (t ++ t') (plus f g)
 does-trans a b c r r' t t' f g p q = record {
   steps = p.steps ++ q.steps;
+  outputs = outputs-append p.steps q.steps p.outputs q.outputs;
   says = said-append p.steps q.steps ∙ ap (λ l. l ++ said q.steps) p.says ∙ ap (λ l. t ++ l) q.says;
   moves = moves-trans a b c r r' p.steps q.steps f g p.moves q.moves;
 }
@@ -67,11 +80,11 @@ none-plus f = grind arith
 
 -- a call took these bytes
 pub does_take : (a b : Seen) (r : List ℕ) → Moves a b r [] none → Does a b r [] none
-does_take a b r p = record { steps = []; says = refl; moves = p }
+does_take a b r p = record { steps = []; says = refl; outputs = tt; moves = p }
 
 -- a call said these bytes
 pub does_say : (a b : Seen) (t : List ℕ) → Moves a b [] (Say (plain t) ∷ []) none → Does a b [] t none
-does_say a b t p = record { steps = Say (plain t) ∷ []; says = append-nil t; moves = p }
+does_say a b t p = record { steps = Say (plain t) ∷ []; says = append-nil t; outputs = tt; moves = p }
 
 -- the first bytes and those behind them are the first of both together
 take_two : (n m : ℕ) (bytes : List ℕ) → take n bytes ++ take m (drop n bytes) ≡ take (n + m) bytes
@@ -97,6 +110,35 @@ does_read a b c r r' t f g p q = subst (λ x. Does a c (r ++ r') x (plus f g)) (
 pub said_more : (a b c : Seen) (n m : ℕ) (bytes : List ℕ) → Does a b [] (take n bytes) none → Moves b c [] (Say (plain (take m (drop n bytes))) ∷ []) none → Does a c [] (take (n + m) bytes) none
 said_more a b c n m bytes p q = subst (λ t. Does a c [] t none) (take_two n m bytes) (does_well a b c [] (take n bytes) (take m (drop n bytes)) none p (does_say b c _ q))
 
+-- bytes were taken, and more behind them
+pub moves_read : (a b c : Seen) (r r' : List ℕ) → Moves a b r [] none → Moves b c r' [] none → Moves a c (r ++ r') [] none
+moves_read a b c r r' p q = moves-trans a b c r r' [] [] none none p q
+
+-- what a failed call adds says nothing
+failure-said : (call : Call) (steps : List Step) → IsFailure call steps → said steps ≡ []
+failure-said call steps p = elim p [ inl e ↦ ap said e | inr e ↦ ap said e ]
+
+-- what a failed call adds touches no file
+failure-outputs : (call : Call) (steps : List Step) → IsOutput call → IsFailure call steps → AreOutputs steps
+failure-outputs call steps o p = elim p [ inl e ↦ subst AreOutputs (sym e) tt | inr e ↦ subst AreOutputs (sym e) (o, tt) ]
+
+-- a call that takes or says failed, and so nothing was read or said
+pub fails_does : (a b : Seen) (call : Call) (f : Faults) → IsOutput call → Fails a b call f → Does a b [] [] f
+fails_does a b call f o p = record {
+  steps = p.steps;
+  says = failure-said call p.steps p.failure;
+  outputs = failure-outputs call p.steps o p.failure;
+  moves = p.moves;
+}
+
+-- a failed take reads and says nothing
+pub fails_take : (a b : Seen) → Fails a b kind.Take input_fault → Does a b [] [] input_fault
+fails_take a b p = fails_does a b kind.Take input_fault tt p
+
+-- a failed say reads and says nothing
+pub fails_say : (a b : Seen) → Fails a b kind.Say output_fault → Does a b [] [] output_fault
+fails_say a b p = fails_does a b kind.Say output_fault tt p
+
 -- n bytes were said, and then a call failed
 pub broke : (a b c : Seen) (n : ℕ) (bytes : List ℕ) → Does a b [] (take n bytes) none → Does b c [] [] output_fault → Breaks a c bytes none
 broke a b c n bytes p q = record {
@@ -115,6 +157,7 @@ pub does_as : (a b : Seen) (r t t' : List ℕ) (f f' : Faults) → Does a b r t 
 does_as a b r t t' f f' p e q = record {
   steps = p.steps;
   says = p.says ∙ e;
+  outputs = p.outputs;
   moves = subst (Moves a b r p.steps) q p.moves;
 }
 

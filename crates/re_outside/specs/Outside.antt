@@ -1,5 +1,8 @@
 -- What the world outside does at each call.
-use Rattle.std.specs.Prelude.{ℕ, ◌≡◌, ◌≤◌, ◌+◌, ◌-◌, ◌^◌, min, List, [], ◌∷◌, ◌++◌, Bool, true}
+use Rattle.std.specs.Prelude.{ℕ, ◌≡◌, ◌≤◌, ◌+◌, ◌-◌, ◌^◌, ◌⊎◌, min, List, [], ◌∷◌, ◌++◌, Bool, true}
+use Rattle.re_outside.specs.Listed.{plain}
+use Rattle.re_outside.specs.declared.step.Call.{Call}
+use Rattle.re_outside.specs.declared.step.Call.TheVariants as kind
 use Rattle.re_outside.specs.declared.step.Step.{Step}
 use Rattle.re_outside.specs.declared.step.Step.TheVariants.{Write, Cut, Sync, Say, Fail}
 
@@ -56,10 +59,40 @@ pub record Moves (old new : Seen) (read : List ℕ) (steps : List Step) (faults 
   pub input_faults : Counts faults.input old.input_faults new.input_faults
   pub output_faults : Counts faults.output old.output_faults new.output_faults
 
--- the same by some steps that say this text
+-- a call that takes or says, and none on a file
+abbrev pub IsOutput : Call → Type 0
+IsOutput kind.Take = Unit
+IsOutput kind.Say = Unit
+IsOutput kind.Size = ⊥
+IsOutput kind.Fetch = ⊥
+IsOutput kind.Write = ⊥
+IsOutput kind.Cut = ⊥
+IsOutput kind.Sync = ⊥
+
+-- each step says something or is a failed call that takes or says, so that no file is touched
+abbrev pub AreOutputs : List Step → Type 0
+AreOutputs [] = Unit
+AreOutputs (Say bytes ∷ steps) = AreOutputs steps
+AreOutputs (Write device file at bytes ∷ steps) = ⊥
+AreOutputs (Cut device file length ∷ steps) = ⊥
+AreOutputs (Sync device file ∷ steps) = ⊥
+AreOutputs (Fail call device file at bytes content ∷ steps) = IsOutput call × AreOutputs steps
+
+-- the steps of a call that failed and needs no field: none, or the one that names it
+abbrev pub IsFailure : Call → List Step → Type 0
+IsFailure call steps = (steps ≡ []) ⊎ (steps ≡ Fail call 0 0 0 (plain []) (plain []) ∷ [])
+
+-- a call that takes or says failed: nothing is read or said, and at most its own step is added
+pub record Fails (old new : Seen) (call : Call) (faults : Faults) : Type 0 where
+  pub steps : List Step
+  pub failure : IsFailure call steps
+  pub moves : Moves old new [] steps faults
+
+-- moves by some steps that say this text and touch no file
 pub record Does (old new : Seen) (read text : List ℕ) (faults : Faults) : Type 0 where
   pub steps : List Step
   pub says : said steps ≡ text
+  pub outputs : AreOutputs steps
   pub moves : Moves old new read steps faults
 
 -- no input is left, where it is told

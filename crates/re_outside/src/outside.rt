@@ -1,9 +1,9 @@
 //! The calls to the outside, and what they do there.
 ghost use Rattle.std.specs.Prelude.{◌≡◌, ◌≤◌, ◌<◌, [], ◌∷◌, length, take, IfOk, OnOk, OnErr};
 ghost use Rattle.re_outside.specs.Listed.{plain};
-ghost use Rattle.re_outside.specs.Outside.{Moves, Does, IsAtEnd, Breaks, none, input_fault, output_fault};
+ghost use Rattle.re_outside.specs.Outside.{Moves, Fails, Does, IsAtEnd, Breaks, none, input_fault, output_fault};
 
-use crate::{Failed, Step};
+use crate::{Call, Failed, Step};
 
 /// What lies outside a run: an input that is taken, and an output that is said.
 ///
@@ -17,21 +17,22 @@ pub trait Outside {
     /// Takes the first bytes of the input into the front of `buf`, and answers how many.
     ///
     /// It answers 0 only at the end of the input or where there is no room. A refusal leaves the
-    /// input as it was, and raises the count of input faults.
+    /// input as it was, raises the count of input faults, and adds no step but its own.
     fn take(&mut self, buf: &mut [u8]) -> Result<usize, Failed>
         ensures count { IfOk result (λ n. n ≤ length buf.old) }
         ensures given { IfOk result (λ n. Moves (seen self.old) (seen self.new) (take n buf.new) [] none) }
         ensures end { IfOk result (λ n. n ≡ 0 → 0 < length buf.old → IsAtEnd (seen self.new)) }
-        ensures failed { OnErr result (Does (seen self.old) (seen self.new) [] [] input_fault) };
+        ensures failed { OnErr result (Fails (seen self.old) (seen self.new) Call.Take input_fault) };
 
     /// Says the first of the bytes, at least one where there are any, and answers how many.
     ///
-    /// What was said is one step. A refusal says nothing, and raises the count of output faults.
+    /// What was said is one step. A refusal says nothing, raises the count of output faults, and
+    /// adds no step but its own.
     fn say(&mut self, bytes: &[u8]) -> Result<usize, Failed>
         ensures count { IfOk result (λ n. n ≤ length bytes.now) }
         ensures some { 0 < length bytes.now → IfOk result (λ n. 0 < n) }
         ensures said { IfOk result (λ n. Moves (seen self.old) (seen self.new) [] (Step.Say (plain (take n bytes.now)) ∷ []) none) }
-        ensures failed { OnErr result (Does (seen self.old) (seen self.new) [] [] output_fault) };
+        ensures failed { OnErr result (Fails (seen self.old) (seen self.new) Call.Say output_fault) };
 }
 
 /// Says all the bytes, in as many pieces as it takes.
