@@ -3,14 +3,15 @@ pub mod Orders
 pub mod Programs
 pub mod Parts
 pub mod Endings
-pub mod Reading
+pub mod LineKinds
+pub mod PassedLines
 pub mod Sessions
 pub mod Splits
 pub mod Bodies
 pub mod Devices
 pub mod Evaluated
 pub mod Marking
-pub mod Sums
+pub mod SumMeanings
 pub mod Adding
 pub mod Marks
 pub mod NameTables

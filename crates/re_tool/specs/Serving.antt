@@ -1,5 +1,5 @@
 -- What one line of a session does, and from where a session begins.
-use Rattle.std.specs.Prelude.{ℕ, ◌≡◌, ◌≤◌, List, [], ◌++◌, Option, Some, None, Result, Ok, Err, length, ⊤}
+use Rattle.std.specs.Prelude.{ℕ, ◌≡◌, ◌≤◌, ◌==◌, ◌&&◌, nat_le, Bool, List, [], ◌++◌, Option, Some, None, Result, Ok, Err, length, ⊤}
 use Rattle.std.specs.List.{flat_map}
 use Rattle.re_terms.specs.declared.program.Program.{Program}
 use Rattle.re_terms.specs.World.{World, Outcome, start_world}
@@ -17,6 +17,11 @@ use Rattle.re_tool.specs.Lines.{ended, ArePlain}
 use Rattle.re_tool.specs.Part.{divided}
 use Rattle.re_tool.specs.Reads.{limit}
 use Rattle.re_tool.specs.Texts.{answer_text}
+use Rattle.re_tool.specs.Tokens.{skipped}
+
+-- a line that has no answer: one of at most 1,024 bytes that is all blanks and comments
+abbrev pub is_blank_line : List ℕ → Bool
+is_blank_line line = nat_le (length line) 1024 && (length (skipped line) == 0)
 
 -- the text of an answer, and none of a blank line
 abbrev pub said_of : Option Answer → List ℕ

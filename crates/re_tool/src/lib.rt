@@ -6,22 +6,19 @@ mod chunk;
 mod command;
 mod device;
 mod evaluate;
+mod faults;
 mod line;
+mod look_up;
 mod names;
 mod needs;
 mod part;
 mod patterns;
 mod reader;
+mod reading;
 mod session;
 mod status;
+mod sums;
 mod tokens;
 
+
 pub use status::Status;
-pub mod command;
-pub mod faults;
-pub mod look_up;
-pub mod names;
-pub mod patterns;
-pub mod reading;
-pub mod sums;
-pub mod tokens;

@@ -1,5 +1,5 @@
 //! Tokens.
-ghost use Rattle.std.specs.Prelude.{◌≡◌, ◌≤◌, ◌<◌, ◌∷◌, length, map, drop, take, position, IfOk, Some, None, Err, option_map};
+ghost use Rattle.std.specs.Prelude.{◌≡◌, ◌==◌, ◌≤◌, ◌<◌, ◌∷◌, length, map, drop, take, position, IfOk, Some, None, Err, option_map};
 ghost use Rattle.std.specs.List.{prefix_len};
 ghost use Rattle.std.specs.Str.{bytes_eq};
 ghost use Rattle.re_tool.specs.Tokens.{reserved_words, signs, is_blank, is_digit, is_letter, is_word_byte, skipped, number_of, word_mark, first_mark, marks_of};
@@ -181,6 +181,13 @@ fn first_mark(text: &[u8]) -> Option<(Mark<'_>, &[u8])>
     }
     let place = sign_place(&text[..1])?;
     Some((Mark::Sign(place), &text[1..]))
+}
+
+/// Whether a text has no tokens: all of it is blanks and comments.
+pub fn is_blank_text(text: &[u8]) -> bool
+    ensures { result ≡ (length (skipped text.now) == 0) }
+{
+    skip(text).is_empty()
 }
 
 /// The tokens of a text, in order.

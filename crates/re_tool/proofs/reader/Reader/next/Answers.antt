@@ -1,5 +1,5 @@
 use Rattle.std.proofs.Common.{arith}
-use Rattle.re_tool.proofs.Reading.{reads_none, reads_pass, reads_fill}
+use Rattle.re_tool.proofs.PassedLines.{reads_none, reads_pass, reads_fill}
 use Rattle.re_tool.proofs.reader.Reader.next.Goals as goal
 
 pub pieces-init : goal.pieces-init

@@ -1,6 +1,6 @@
 use Rattle.std.proofs.Common.{refl}
 use Rattle.std.proofs.lemmas.Bool.{ne_eqb}
-use Rattle.re_tool.proofs.Reading.{passes_more}
+use Rattle.re_tool.proofs.PassedLines.{passes_more}
 use Rattle.re_tool.proofs.reader.Reader.scan.Goals as goal
 
 pub loop-byte-preserved : goal.loop-byte-preserved
