@@ -5,6 +5,7 @@ pub mod Parts
 pub mod Endings
 pub mod LineKinds
 pub mod PassedLines
+pub mod Serves
 pub mod Sessions
 pub mod Splits
 pub mod Bodies

@@ -1,0 +1,36 @@
+-- What a line in hand is, as far as it is kept.
+use Rattle.std.proofs.Common.{arith, ◌≡◌, ◌≤◌, ◌+◌, ◌++◌, ◌∷◌, [], ℕ, List, length, take, sym, ◌∙◌, ap, subst, refl, length-append}
+use Rattle.re_outside.specs.Outside.{Seen, none}
+use Rattle.re_terms.specs.declared.program.Program.{Program}
+use Rattle.re_tool.specs.declared.reader.Reader.{Reader}
+use Rattle.re_tool.specs.Clipped.{Clipped, clipped}
+use Rattle.re_tool.specs.Commands.{line_of}
+use Rattle.re_tool.specs.Device.{DeviceState}
+use Rattle.re_tool.specs.Lines.{without_return}
+use Rattle.re_tool.specs.Reads.{Reads}
+use Rattle.re_tool.specs.Serving.{Turns, TurnBreaks}
+use Rattle.re_tool.proofs.Programs.{line-kept, line-kept_last}
+use Rattle.re_tool.proofs.Sessions.{turns_as, breaks_as}
+
+kept_is : (p : Program) (line' : Clipped) (most : ℕ) (raw : List ℕ) → line' ≡ clipped most raw → most ≡ 1026 → line_of p (without_return line'.items) ≡ line_of p (without_return raw)
+kept_is p line' most raw e m = ap (λ (l : Clipped). line_of p (without_return l.items)) e ∙ ap (λ n. line_of p (without_return (take n raw))) m ∙ line-kept p raw
+
+last_is : (p : Program) (line' : Clipped) (most : ℕ) (raw : List ℕ) → line' ≡ clipped most raw → most ≡ 1026 → line_of p line'.items ≡ line_of p raw
+last_is p line' most raw e m = ap (λ (l : Clipped). line_of p l.items) e ∙ ap (λ n. line_of p (take n raw)) m ∙ line-kept_last p raw
+
+pub turns_kept : (p : Program) (line' : Clipped) (most : ℕ) (raw : List ℕ) (before after : DeviceState) (a b : Seen) → line' ≡ clipped most raw → most ≡ 1026 → Turns p (without_return line'.items) before after a b → Turns p (without_return raw) before after a b
+turns_kept p line' most raw before after a b e m t = turns_as p _ _ before after a b (kept_is p line' most raw e m) t
+
+pub breaks_kept : (p : Program) (line' : Clipped) (most : ℕ) (raw : List ℕ) (before after : DeviceState) (a b : Seen) → line' ≡ clipped most raw → most ≡ 1026 → TurnBreaks p (without_return line'.items) before after a b → TurnBreaks p (without_return raw) before after a b
+breaks_kept p line' most raw before after a b e m t = breaks_as p _ _ before after a b (kept_is p line' most raw e m) t
+
+pub turns_kept_last : (p : Program) (line' : Clipped) (most : ℕ) (raw : List ℕ) (before after : DeviceState) (a b : Seen) → line' ≡ clipped most raw → most ≡ 1026 → Turns p line'.items before after a b → Turns p raw before after a b
+turns_kept_last p line' most raw before after a b e m t = turns_as p _ _ before after a b (last_is p line' most raw e m) t
+
+pub breaks_kept_last : (p : Program) (line' : Clipped) (most : ℕ) (raw : List ℕ) (before after : DeviceState) (a b : Seen) → line' ≡ clipped most raw → most ≡ 1026 → TurnBreaks p line'.items before after a b → TurnBreaks p raw before after a b
+breaks_kept_last p line' most raw before after a b e m t = breaks_as p _ _ before after a b (last_is p line' most raw e m) t
+
+-- each line takes a byte at least, so there are no more entries than bytes
+pub number_more : (a b : Seen) (r r' : Reader) (line' : Clipped) (most n n' : ℕ) → Reads r r' line' most a b (10 ∷ []) none → n + length r.chunk ≤ r.taken → n' ≤ n + 1 → n' + length r'.chunk ≤ r'.taken
+number_more a b r r' line' most n n' d h k =
+    omega (arith, d.taken, ap length d.whole, length-append r.chunk d.bytes, length-append d.line (10 ∷ r'.chunk))

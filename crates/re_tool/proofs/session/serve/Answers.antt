@@ -1,0 +1,81 @@
+use Rattle.std.proofs.Common.{arith, ◌∙◌, sym, ap, subst, refl, length-append, length}
+use Rattle.re_outside.specs.Outside.{Seen}
+use Rattle.re_tool.specs.Clipped.{Clipped}
+use Rattle.re_tool.specs.Commands.{line_of}
+use Rattle.re_tool.specs.Lines.{without_return}
+use Rattle.re_tool.specs.Serving.{Starts}
+use Rattle.re_tool.proofs.Sessions.{starts_so_far, ready_line, ready_end, so_far_more}
+use Rattle.re_tool.proofs.Endings.{near_failed, near_too_long, near_halted, near_memory, runs_output, runs_done, near_finish}
+use Rattle.re_tool.proofs.Serves.{turns_kept, breaks_kept, turns_kept_last, breaks_kept_last, number_more}
+use Rattle.re_tool.proofs.Parts.{line_smaller}
+use Rattle.re_tool.proofs.session.serve.Goals as goal
+use Rattle.re_tool.proofs.session.serve.Goals.{in-Ok-turn, in-Err-Memory-turn-2, in-Err-Output-turn}
+
+pub lines-init : goal.lines-init
+lines-init g c = record {
+  so_far = λ start h. starts_so_far start _ _ _ _ h;
+  fits = c.requires.fits;
+  few = c.requires.few;
+  number = c.requires.number;
+  most = ap (λ (l : Clipped). l.most) c.new-line.ensures;
+}
+
+pub returns-in-Err-Memory : goal.returns-in-Err-Memory
+returns-in-Err-Memory g c =
+    let e = rw c.in-Err-Memory.field-0-is at c.in-Err-Memory.ensures in
+    λ start h. near_finish _ _ _ _ (near_halted _ _ _ _ _ _ _ c.next.new.line 1026 (c.lines.invariant.so_far start h) e.0 e.1) _ (λ q. absurd (cc)) c.finish.ensures
+
+pub returns-in-Err-Input : goal.returns-in-Err-Input
+returns-in-Err-Input g c =
+    let e = rw c.in-Err-Input.field-0-is at c.in-Err-Input.ensures in
+    λ start h. near_finish _ _ _ _ (near_failed _ _ _ _ _ _ _ _ _ (c.lines.invariant.so_far start h) e.0 e.1 e.2) _ (λ q. absurd (cc)) c.finish-in-Err-Input.ensures
+
+pub returns-in-Ok-TooLong : goal.returns-in-Ok-TooLong
+returns-in-Ok-TooLong g c =
+    let e = rw c.in-Ok-TooLong.field-0-is at c.in-Ok-TooLong.ensures in
+    λ start h. near_finish _ _ _ _ (near_too_long _ _ _ _ _ _ _ _ _ (c.lines.invariant.so_far start h) e.0 e.1 e.2) _ (λ q. absurd (cc)) c.finish-in-Ok-TooLong.ensures
+
+pub lines-smaller : goal.lines-smaller
+lines-smaller g c =
+    let e = rw c.in-Ok-Line.field-0-is at c.in-Ok-Line.ensures in
+    line_smaller _ _ _ _ _ _ e.0 e.1
+
+pub lines-preserved : goal.lines-preserved
+lines-preserved g c =
+    let e = rw c.in-Ok-Line.field-0-is at c.in-Ok-Line.ensures in
+    let t = rw (c.trim_return.ensures, c.bytes.ensures) at c.in-Ok.ensures.turns in
+    record {
+      so_far = λ start h. so_far_more _ _ _ _ _ _ _ _ _ (c.lines.invariant.so_far start h) _ _ e.0 e.1 (turns_kept _ _ _ _ _ _ _ _ e.0.keeps c.lines.invariant.most t);
+      fits = c.in-Ok.ensures.fits;
+      few = e.1;
+      number = number_more _ _ _ _ _ _ _ _ e.0 c.lines.invariant.number c.in-Ok.ensures.number;
+      most = ap (λ (l : Clipped). l.most) e.0.keeps ∙ c.lines.invariant.most;
+    }
+
+pub returns-in-Err-Memory-turn : goal.returns-in-Err-Memory-turn
+returns-in-Err-Memory-turn g c =
+    let e = rw c.in-Ok-Line.field-0-is at c.in-Ok-Line.ensures in
+    let t = rw c.in-Err-Memory-turn.field-0-is at c.in-Err-Memory-turn.ensures.turns in
+    λ start h. near_finish _ _ _ _ (near_memory _ _ _ _ _ _ (ready_line _ _ _ _ _ _ _ _ _ (c.lines.invariant.so_far start h) e.0 e.1) t) _ (λ q. absurd (cc)) c.finish-in-Err-Memory-turn.ensures
+
+pub returns-in-Err-Output : goal.returns-in-Err-Output
+returns-in-Err-Output g c =
+    let e = rw c.in-Ok-Line.field-0-is at c.in-Ok-Line.ensures in
+    let t = rw (c.in-Err-Output.field-0-is, c.trim_return.ensures, c.bytes.ensures) at c.in-Err-Output.ensures.turns in
+    λ start h. runs_output _ _ _ _ _ _ (ready_line _ _ _ _ _ _ _ _ _ (c.lines.invariant.so_far start h) e.0 e.1) _ (breaks_kept _ _ _ _ _ _ _ _ e.0.keeps c.lines.invariant.most t)
+
+pub returns-in-Ok-End : goal.returns-in-Ok-End
+returns-in-Ok-End g c =
+    let e = rw c.in-Ok-End.field-0-is at c.in-Ok-End.ensures in
+    let q = λ (start : Seen) (h : Starts start (g.O.Outside.seen c.args.out.now) c.args.program.now c.args.reader.now c.args.device.now). ready_end _ _ _ _ _ _ _ _ _ (c.lines.invariant.so_far start h) e.0 e.1 e.2 e.3 in
+    elim c.match-turn-2.branch [
+      in-Ok-turn w ↦
+        let t = rw c.bytes-in-Ok-End.ensures at w.in-Ok-turn.ensures.turns in
+        rw (w.out-is, w.result-is) (λ start h. runs_done _ _ _ _ _ _ (q start h).0 _ (q start h).1 e.3 (turns_kept_last _ _ _ _ _ _ _ _ e.0.keeps c.lines.invariant.most t))
+      | in-Err-Memory-turn-2 w ↦
+        let t = rw w.in-Err-Memory-turn-2.field-0-is at w.in-Err-Memory-turn-2.ensures.turns in
+        rw (w.out-is, w.result-is) (λ start h. near_finish _ _ _ _ (near_memory _ _ _ _ _ _ (q start h).0 t) _ (λ x. absurd (cc)) w.finish-in-Err-Memory-turn-2.ensures)
+      | in-Err-Output-turn w ↦
+        let t = rw (w.in-Err-Output-turn.field-0-is, c.bytes-in-Ok-End.ensures) at w.in-Err-Output-turn.ensures.turns in
+        rw (w.out-is, w.result-is) (λ start h. runs_output _ _ _ _ _ _ (q start h).0 _ (breaks_kept_last _ _ _ _ _ _ _ _ e.0.keeps c.lines.invariant.most t))
+    ]
