@@ -1,4 +1,5 @@
 pub mod Adding
+pub mod Declaring
 pub mod Marks
 pub mod NameTables
 pub mod Splitting
