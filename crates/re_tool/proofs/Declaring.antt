@@ -19,38 +19,33 @@ from_none : (earlier : List Decl) (statement : List Mark) (statements : List (Li
 from_none earlier statement statements [] e = ap (λ o. option_and_then program_with (option_and_then (λ decls. declarations decls statements) o)) e
 from_none earlier statement statements (mark ∷ rest) e = refl
 
--- these declarations are read, and with what the marks that are left give they make the program
-pub record Declares (before : List Decl) (marks : List Mark) (earlier : List Decl) (left : List Mark) : Type 0 where
-  pub so_far : program_from earlier (split semicolon left) ≡ program_from before (split semicolon marks)
+-- these declarations are read, and with the statement at hand and what is left behind it they make the program
+pub record Declares (before : List Decl) (marks : List Mark) (earlier : List Decl) (statement : List Mark) (left : Option (List Mark)) : Type 0 where
+  pub so_far : program_from earlier (split_by semicolon (statement, left)) ≡ program_from before (split semicolon marks)
 
-pub declares_first : (before : List Decl) (marks : List Mark) → Declares before marks before marks
-declares_first before marks = record { so_far = refl }
+pairs : (sign : ℕ) (marks part : List Mark) (left : Option (List Mark)) → part ≡ (next_part sign marks).0 → left ≡ (next_part sign marks).1 → split_by sign (part, left) ≡ split sign marks
+pairs sign marks part left e k = ap (λ p. split_by sign (p, left)) e ∙ ap (λ o. split_by sign ((next_part sign marks).0, o)) k ∙ sym (split-next sign marks)
 
-split_at : (left part behind : List Mark) → part ≡ (next_part semicolon left).0 → Some behind ≡ (next_part semicolon left).1 → split semicolon left ≡ (part ∷ (split semicolon behind).0, (split semicolon behind).1)
-split_at left part behind e k = split-next semicolon left ∙ ap (λ o. split_by semicolon ((next_part semicolon left).0, o)) (sym k) ∙ ap (λ p. split_by semicolon (p, Some behind)) (sym e)
+pub declares_first : (before : List Decl) (marks part : List Mark) (left : Option (List Mark)) → part ≡ (next_part semicolon marks).0 → left ≡ (next_part semicolon marks).1 → Declares before marks before part left
+declares_first before marks part left e k = record { so_far = ap (program_from before) (pairs semicolon marks part left e k) }
 
-pub declares_more : (before : List Decl) (marks : List Mark) (earlier next : List Decl) (left part behind : List Mark) → Declares before marks earlier left
-    → part ≡ (next_part semicolon left).0 → Some behind ≡ (next_part semicolon left).1 → declared_next earlier part ≡ Some next → Declares before marks next behind
-declares_more before marks earlier next left part behind d e k n = record { so_far =
-    from_next earlier next part (split semicolon behind).0 (split semicolon behind).1 n ∙ sym (ap (program_from earlier) (split_at left part behind e k)) ∙ d.so_far }
+pub declares_more : (before : List Decl) (marks : List Mark) (earlier next : List Decl) (statement rest part : List Mark) (left : Option (List Mark)) → Declares before marks earlier statement (Some rest)
+    → declared_next earlier statement ≡ Some next → part ≡ (next_part semicolon rest).0 → left ≡ (next_part semicolon rest).1 → Declares before marks next part left
+declares_more before marks earlier next statement rest part left d n e k = record { so_far =
+    ap (program_from next) (pairs semicolon rest part left e k) ∙ from_next earlier next statement (split semicolon rest).0 (split semicolon rest).1 n ∙ d.so_far }
 
-pub declares_none : (before : List Decl) (marks : List Mark) (earlier : List Decl) (left part behind : List Mark) → Declares before marks earlier left
-    → part ≡ (next_part semicolon left).0 → Some behind ≡ (next_part semicolon left).1 → declared_next earlier part ≡ None → program_from before (split semicolon marks) ≡ None
-declares_none before marks earlier left part behind d e k n =
-    sym d.so_far ∙ ap (program_from earlier) (split_at left part behind e k) ∙ from_none earlier part (split semicolon behind).0 (split semicolon behind).1 n
+pub declares_none : (before : List Decl) (marks : List Mark) (earlier : List Decl) (statement rest : List Mark) → Declares before marks earlier statement (Some rest)
+    → declared_next earlier statement ≡ None → program_from before (split semicolon marks) ≡ None
+declares_none before marks earlier statement rest d n =
+    sym d.so_far ∙ from_none earlier statement (split semicolon rest).0 (split semicolon rest).1 n
 
-unended : (earlier : List Decl) (left : List Mark) (o : Option ℕ) → 0 < length left → None ≡ (part_at left o).1 → program_from earlier (split_by semicolon (part_at left o)) ≡ None
-unended earlier left (Some n) h k = absurd (cc)
-unended earlier [] None h k = absurd (omega arith)
-unended earlier (mark ∷ left) None h k = refl
+pub declares_unended : (before : List Decl) (marks : List Mark) (earlier : List Decl) (statement : List Mark) → Declares before marks earlier statement None → 0 < length statement → program_from before (split semicolon marks) ≡ None
+declares_unended before marks earlier [] d h = absurd (omega arith)
+declares_unended before marks earlier (mark ∷ statement) d h = sym d.so_far
 
-pub declares_unended : (before : List Decl) (marks : List Mark) (earlier : List Decl) (left : List Mark) → Declares before marks earlier left → 0 < length left → None ≡ (next_part semicolon left).1 → program_from before (split semicolon marks) ≡ None
-declares_unended before marks earlier left d h k =
-    sym d.so_far ∙ ap (program_from earlier) (split-next semicolon left) ∙ unended earlier left (position (is_sign semicolon) left) h k
-
-pub declares_all : (before : List Decl) (marks : List Mark) (earlier : List Decl) (left : List Mark) → Declares before marks earlier left → length left ≡ 0 → program_with earlier ≡ program_from before (split semicolon marks)
+pub declares_all : (before : List Decl) (marks : List Mark) (earlier : List Decl) (statement : List Mark) → Declares before marks earlier statement None → length statement ≡ 0 → program_with earlier ≡ program_from before (split semicolon marks)
 declares_all before marks earlier [] d h = d.so_far
-declares_all before marks earlier (mark ∷ left) d h = absurd (omega arith)
+declares_all before marks earlier (mark ∷ statement) d h = absurd (omega arith)
 
 pub program_with-listed : (decls : Listed Decl) → decls.spare ≡ 0 → 0 < length decls.items → program_with decls.items ≡ Some (record { decls = decls })
 program_with-listed decls e h = by_items decls.items decls.spare e h

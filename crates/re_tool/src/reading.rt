@@ -171,16 +171,15 @@ impl<'a> Table<'a> {
         ensures declared { OnOk result (program_with self.new.decls.items ≡ program_from self.old.decls.items (split semicolon (plain_marks marks.now))) }
         ensures not_built { result ≡ Err ProgramFault.NotBuilt → program_from self.old.decls.items (split semicolon (plain_marks marks.now)) ≡ None }
     {
-        let mut rest = marks;
-        while !rest.is_empty() {
-            let (statement, left) = next_part(rest, SEMICOLON);
-            match left {
-                Some(behind) => {
-                    self.declare(alloc, statement)?;
-                    rest = behind;
-                }
-                None => return Err(ProgramFault::NotBuilt),
-            }
+        let (mut statement, mut left) = next_part(marks, SEMICOLON);
+        while let Some(rest) = left {
+            self.declare(alloc, statement)?;
+            let (next, behind) = next_part(rest, SEMICOLON);
+            statement = next;
+            left = behind;
+        }
+        if !statement.is_empty() {
+            return Err(ProgramFault::NotBuilt);
         }
         Ok(())
     }
