@@ -1,4 +1,5 @@
 pub mod Adding
+pub mod Building
 pub mod Declaring
 pub mod Marks
 pub mod NameTables

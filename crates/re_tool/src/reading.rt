@@ -4,6 +4,7 @@ ghost use Rattle.re_terms.specs.Listed.{plain};
 ghost use Rattle.re_tool.specs.Scanning.{plain_mark, plain_marks};
 ghost use Rattle.re_tool.specs.Grammar.{semicolon, names_in, var_of, signal_of, body_of, is_var, declared, has_room, may_follow, declared_next, split, program_with, program_from, program_in, program_of};
 ghost use Rattle.re_tool.specs.Table.{IsTable};
+ghost use Rattle.re_tool.specs.Built.{IsBuilt};
 
 use crate::faults::ProgramFault;
 use crate::look_up::{is_device, is_var};
@@ -209,6 +210,7 @@ fn read_declarations(alloc: Global, marks: &[Mark<'_>]) -> Result<Program, Progr
 pub fn read_program(alloc: Global, text: &[u8]) -> Result<Program, ProgramFault>
     ensures read { IfOk result (λ p. program_of text.now ≡ Some p) }
     ensures not_built { result ≡ Err ProgramFault.NotBuilt → program_of text.now ≡ None }
+    ensures built { IfOk result IsBuilt }
 {
     if text.len() > MAX_TEXT {
         return Err(ProgramFault::NotBuilt);
