@@ -14,6 +14,8 @@ pub mod Evaluated
 pub mod Marking
 pub mod SumMeanings
 pub mod Adding
+pub mod Building
+pub mod Declaring
 pub mod Marks
 pub mod NameTables
 pub mod Splitting

@@ -217,12 +217,15 @@ abbrev pub program_with : List Decl → Option Program
 program_with [] = None
 program_with (d ∷ decls) = Some (record { decls = plain (d ∷ decls) })
 
--- the program of these statements, where no mark stands behind the last
-abbrev pub program_in : List (List Mark) × List Mark → Option Program
-program_in (statements, []) = do
-  decls ← declarations [] statements
+-- the program of earlier declarations and of these statements, where no mark stands behind the last
+abbrev pub program_from : List Decl → List (List Mark) × List Mark → Option Program
+program_from earlier (statements, []) = do
+  decls ← declarations earlier statements
   program_with decls
-program_in (statements, mark ∷ rest) = None
+program_from earlier (statements, mark ∷ rest) = None
+
+abbrev pub program_in : List (List Mark) × List Mark → Option Program
+program_in split = program_from [] split
 
 -- the program that a text is, or None where it is no such program or has over 65,536 bytes
 abbrev pub program_of : List ℕ → Option Program

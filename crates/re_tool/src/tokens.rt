@@ -210,3 +210,80 @@ pub fn marks(alloc: Global, text: &[u8]) -> Result<Vec<Mark<'_>>, MarksFault>
     }
     Ok(found)
 }
+
+#[cfg(test)]
+mod tests {
+    use super::*;
+    use std::test::Fail;
+
+    /// How many tokens a text has, or that memory ran out or some place has no token.
+    fn count(alloc: Global, text: &[u8]) -> Result<usize, MarksFault> {
+        Ok(marks(alloc, text)?.len())
+    }
+
+    #[test]
+    fn counts_tokens(rt: HostRuntime) -> Result<(), Fail> {
+        let alloc = rt.alloc();
+        let cases: [(&[u8], usize); 14] = [
+            (b"", 0),
+            (b" \t\r\n# var x", 0),
+            (b"# a\rb\n0", 1),
+            (b"9223372036854775808", 1),
+            (b"a_1 Z9", 2),
+            (b"abcdefghijabcdefghijabcdefghijab", 1),
+            (b"<=", 1),
+            (b"< =", 2),
+            (b"<==", 2),
+            (b"===", 2),
+            (b"!=-1", 3),
+            (b"x#y\n;:=,()+-*/%<>", 14),
+            (b"- 5", 2),
+            (b"1+2", 3),
+        ];
+        for (text, wanted) in cases {
+            assert_eq!(rt; count(alloc, text), Ok(wanted));
+        }
+        Ok(())
+    }
+
+    #[test]
+    fn refuses_what_is_no_token(rt: HostRuntime) -> Result<(), Fail> {
+        let alloc = rt.alloc();
+        let cases: [&[u8]; 11] = [
+            b"007",
+            b"9223372036854775809",
+            b"18446744073709551616",
+            b"1x",
+            b"_x",
+            b"abcdefghijabcdefghijabcdefghijabc",
+            b"a ! b",
+            b"\0",
+            b"\x80",
+            b"x; y & z",
+            b"\x0b",
+        ];
+        for text in cases {
+            assert_eq!(rt; count(alloc, text), Err(MarksFault::NoToken));
+        }
+        Ok(())
+    }
+
+    #[test]
+    fn has_the_tables_in_order(rt: HostRuntime) -> Result<(), Fail> {
+        let alloc = rt.alloc();
+        let words = b"device symbol var event signal fold counter set register changed map filter either on do in arg self if then else and or not recover fault size has true false int bool sym";
+        let mut place = 0usize;
+        for mark in &marks(alloc, words)? {
+            assert!(rt; matches!(mark, Mark::Reserved(found) if *found == place));
+            place = place.saturating_add(1);
+        }
+        assert_eq!(rt; place, 33);
+        let mut place = 0usize;
+        for mark in &marks(alloc, b"; : = , ( ) + - * / % < > == != <= >=")? {
+            assert!(rt; matches!(mark, Mark::Sign(found) if *found == place));
+            place = place.saturating_add(1);
+        }
+        assert_eq!(rt; place, 17);
+        Ok(())
+    }
+}
