@@ -31,8 +31,10 @@ declares_first before marks part left e k = record { so_far = ap (program_from b
 
 pub declares_more : (before : List Decl) (marks : List Mark) (earlier next : List Decl) (statement rest part : List Mark) (left : Option (List Mark)) → Declares before marks earlier statement (Some rest)
     → declared_next earlier statement ≡ Some next → part ≡ (next_part semicolon rest).0 → left ≡ (next_part semicolon rest).1 → Declares before marks next part left
-declares_more before marks earlier next statement rest part left d n e k = record { so_far =
-    ap (program_from next) (pairs semicolon rest part left e k) ∙ from_next earlier next statement (split semicolon rest).0 (split semicolon rest).1 n ∙ d.so_far }
+declares_more before marks earlier next statement rest part left d n e k = record {
+  so_far =
+      ap (program_from next) (pairs semicolon rest part left e k) ∙ from_next earlier next statement (split semicolon rest).0 (split semicolon rest).1 n ∙ d.so_far;
+}
 
 pub declares_none : (before : List Decl) (marks : List Mark) (earlier : List Decl) (statement rest : List Mark) → Declares before marks earlier statement (Some rest)
     → declared_next earlier statement ≡ None → program_from before (split semicolon marks) ≡ None

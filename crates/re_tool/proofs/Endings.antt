@@ -111,8 +111,8 @@ module _ (a b c : Seen) (p : Program) (r r' : Reader) (device : DeviceState) (li
       let whole : read ≡ flat_map ended (s.head ++ s.raws) ++ rest = ap (λ l. l ++ d.bytes) s.whole ∙ append_assoc (flat_map ended (s.head ++ s.raws)) r.chunk d.bytes in
       let parts : split read ≡ (s.head ++ (s.raws ++ (split rest).0), (split rest).1) = ap split whole ∙ split_lines (s.head ++ s.raws) rest s.plain ∙ ap (λ l. (l, (split rest).1)) (append_assoc s.head s.raws (split rest).0) in
       let session : (failed : Bool) → session_of read failed ≡ with_lines p (lines ++ (map without_return (split rest).0 ++ last_lines failed (split rest).1)) =
-          λ failed. session_at read failed s.front s.head (s.raws ++ (split rest).0) (split rest).1 p short parts s.divides s.program
-          ∙ ap (with_lines p) (ap (λ l. l ++ last_lines failed (split rest).1) (map-append without_return s.raws (split rest).0) ∙ append_assoc lines (map without_return (split rest).0) (last_lines failed (split rest).1)) in
+      λ failed. session_at read failed s.front s.head (s.raws ++ (split rest).0) (split rest).1 p short parts s.divides s.program
+      ∙ ap (with_lines p) (ap (λ l. l ++ last_lines failed (split rest).1) (map-append without_return s.raws (split rest).0) ∙ append_assoc lines (map without_return (split rest).0) (last_lines failed (split rest).1)) in
       let is : first_lines n (session_of read false) ≡ with_lines p lines = ap (first_lines n) (session false) ∙ ap (with_lines p) (take_at lines (map without_return (split rest).0 ++ (split rest).1 ∷ []) n refl) in
       record {
         read = read;
@@ -143,14 +143,15 @@ module _ (a c e : Seen) (p : Program) (device : DeviceState) (line : List ℕ) (
   ordered_with : (os : List Outcome) {bytes text : List ℕ} {f : Faults} → Does c e bytes text f → os ≡ q.outcomes → Ordered a e p (q.lines ++ line ∷ []) os (line ∷ [])
   ordered_with os d h =
       subst (λ x. Ordered a e p (q.lines ++ line ∷ []) x (line ∷ [])) (sym h)
-          (ordered_line a e p q.lines line q.outcomes
-              (ordered_on a c e p q.lines [] q.outcomes _ _ _ (ordered_on a q.mid c p q.lines [] q.outcomes _ _ _ (ordered_all a q.mid p q.lines q.outcomes q.order) q.noise.moves) d.moves))
+      (ordered_line a e p q.lines line q.outcomes
+      (ordered_on a c e p q.lines [] q.outcomes _ _ _ (ordered_on a q.mid c p q.lines [] q.outcomes _ _ _ (ordered_all a q.mid p q.lines q.outcomes q.order) q.noise.moves) d.moves))
 
   complete_with : {text : List ℕ} {f : Faults} (n : ℕ) → n ≡ length q.lines + 1 → Does c e [] text f → (length (lines_of (first_lines n (session_of q.read false))) ≤ length (lines_of (session_of q.read true))) ⊎ IsAtEnd e
   complete_with {text} {f} n h d = cases q.complete
     where
       count : length (lines_of (first_lines n (session_of q.read false))) ≡ length q.lines + 1
       count = ap (λ k. length (lines_of (first_lines k (session_of q.read false)))) h ∙ ap (λ x. length (lines_of x)) with_this ∙ length_push q.lines line
+
       cases : (length q.lines + 1 ≤ length (lines_of (session_of q.read true))) ⊎ IsAtEnd c → (length (lines_of (first_lines n (session_of q.read false))) ≤ length (lines_of (session_of q.read true))) ⊎ IsAtEnd e
       cases (inl k) = inl (omega (arith, count))
       cases (inr end) = inr (at_end c e text f d end)

@@ -8,6 +8,7 @@ pub mod PassedLines
 pub mod Serves
 pub mod Sessions
 pub mod Splits
+pub mod Starting
 pub mod Bodies
 pub mod Devices
 pub mod Evaluated

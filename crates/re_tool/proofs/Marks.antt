@@ -97,13 +97,15 @@ marks_step-none [] h e = absurd (omega arith)
 marks_step-none (b ∷ rest) h e = ap (λ o. mark_then o marks_of) (sym e)
 
 pub reads_more : (text : List ℕ) (found : List SourceMark) (mark : SourceMark) (rest behind next : List ℕ) → Reads text found rest → 0 < length rest → Some (plain_mark mark, behind) ≡ first_mark rest → next ≡ skipped behind → Reads text (found ++ mark ∷ []) next
-reads_more text found mark rest behind next r h e k = record { so_far =
-    ap (λ marks. read_before marks (marks_step next marks_of)) (map_push plain_mark found mark)
-    ∙ read_before-push (plain_marks found) (plain_mark mark) (marks_step next marks_of)
-    ∙ ap (λ t. read_before (plain_marks found) (option_map (λ marks. plain_mark mark ∷ marks) (marks_step t marks_of))) k
-    ∙ ap (λ o. read_before (plain_marks found) (option_map (λ marks. plain_mark mark ∷ marks) o)) (sym (marks_of-skipped behind))
-    ∙ ap (read_before (plain_marks found)) (sym (marks_step-some rest _ h e))
-    ∙ r.so_far }
+reads_more text found mark rest behind next r h e k = record {
+  so_far =
+      ap (λ marks. read_before marks (marks_step next marks_of)) (map_push plain_mark found mark)
+      ∙ read_before-push (plain_marks found) (plain_mark mark) (marks_step next marks_of)
+      ∙ ap (λ t. read_before (plain_marks found) (option_map (λ marks. plain_mark mark ∷ marks) (marks_step t marks_of))) k
+      ∙ ap (λ o. read_before (plain_marks found) (option_map (λ marks. plain_mark mark ∷ marks) o)) (sym (marks_of-skipped behind))
+      ∙ ap (read_before (plain_marks found)) (sym (marks_step-some rest _ h e))
+      ∙ r.so_far;
+}
 
 pub reads_none : (text : List ℕ) (found : List SourceMark) (rest : List ℕ) → Reads text found rest → 0 < length rest → None ≡ first_mark rest → marks_of text ≡ None
 reads_none text found rest r h e = sym r.so_far ∙ ap (read_before (plain_marks found)) (marks_step-none rest h e)

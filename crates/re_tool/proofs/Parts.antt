@@ -57,7 +57,7 @@ kept_more lines line text text' line' p q h =
     let F = flat_map ended lines in
     h ∙ ap (λ (t : Clipped). clipped t.most (t.items ++ ended line'.items)) p ∙ ap (λ (l : Clipped). clipped 65537 (take 65537 F ++ ended l.items)) q
     ∙ ap (λ l. let x : Clipped = record { items = l; most = 65537 } in x)
-        (take-take-append 65537 F (take 65538 line ++ 10 ∷ []) ∙ take-cut_within 65537 65538 F line (10 ∷ []) (omega arith) ∙ ap (take 65537) (flat_more lines line [] ∙ append-nil (flat_map ended (lines ++ line ∷ []))))
+    (take-take-append 65537 F (take 65538 line ++ 10 ∷ []) ∙ take-cut_within 65537 65538 F line (10 ∷ []) (omega arith) ∙ ap (take 65537) (flat_more lines line [] ∙ append-nil (flat_map ended (lines ++ line ∷ []))))
 
 -- a last line is kept behind the text
 kept_last : (lines : List (List ℕ)) (line : List ℕ) (text text' line' : Clipped) → text ≡ kept_text (flat_map ended lines) → line' ≡ clipped 65538 line → text' ≡ clipped text.most (text.items ++ line'.items)
@@ -66,7 +66,7 @@ kept_last lines line text text' line' p q h =
     let F = flat_map ended lines in
     h ∙ ap (λ (t : Clipped). clipped t.most (t.items ++ line'.items)) p ∙ ap (λ (l : Clipped). clipped 65537 (take 65537 F ++ l.items)) q
     ∙ ap (λ l. let x : Clipped = record { items = l; most = 65537 } in x)
-        (take-take-append 65537 F (take 65538 line) ∙ ap (λ l. take 65537 (F ++ l)) (sym (append-nil (take 65538 line))) ∙ take-cut_within 65537 65538 F line [] (omega arith) ∙ ap (λ l. take 65537 (F ++ l)) (append-nil line))
+    (take-take-append 65537 F (take 65538 line) ∙ ap (λ l. take 65537 (F ++ l)) (sym (append-nil (take 65538 line))) ∙ take-cut_within 65537 65538 F line [] (omega arith) ∙ ap (λ l. take 65537 (F ++ l)) (append-nil line))
 
 module _ (a b c : Seen) (r r' : Reader) (text line line' : Clipped) (s : PartSoFar a b r text line) where
   keeps_line : {end : List ℕ} {f : Faults} → (d : Reads r r' line' line.most b c end f) → line' ≡ clipped 65538 d.line
@@ -127,13 +127,15 @@ module _ (a b c : Seen) (r r' : Reader) (text line line' : Clipped) (s : PartSoF
   part_at_end d few empty failed = part_short (s.read ++ d.bytes) failed (read_few d few) ∙ ap (λ p. part_in p failed) (split_read d empty)
 
   -- the last line is a separator without its LF
-  pub part_ends : Reads r r' line' line.most b c [] none → r'.taken ≤ limit → r'.chunk ≡ [] → IsAtEnd c → is_separator line'.items ≡ true → ReadsAll text a c
+  pub part_ends : Reads r r' line' line.most b c [] none → r'.taken ≤ limit → r'.chunk ≡ [] → IsAtEnd c → is_separator line'.items ≡ true → ReadsAll r' text a c
   part_ends d few empty end is =
       let keeps = keeps_line d in
       let here : is_separator d.line ≡ true = sym (separator-kept_last 65538 d.line (omega arith)) ∙ ap (λ (l : Clipped). is_separator l.items) (sym keeps) ∙ is in
       record {
         read = s.read ++ d.bytes;
         few = read_few d few;
+        taken = few;
+        empty = empty;
         part = flat_map ended s.lines;
         is_part = part_at_end d few empty false ∙ rw (divided_none s.lines s.undivided, here) refl;
         does = does_more a b c s.read d.bytes [] none s.does d.does;
@@ -142,13 +144,15 @@ module _ (a b c : Seen) (r r' : Reader) (text line line' : Clipped) (s : PartSoF
       }
 
   -- the last line is of the program part
-  pub part_ends_within : (text' : Clipped) → Reads r r' line' line.most b c [] none → r'.taken ≤ limit → r'.chunk ≡ [] → IsAtEnd c → is_separator line'.items ≡ false → text' ≡ clipped text.most (text.items ++ line'.items) → ReadsAll text' a c
+  pub part_ends_within : (text' : Clipped) → Reads r r' line' line.most b c [] none → r'.taken ≤ limit → r'.chunk ≡ [] → IsAtEnd c → is_separator line'.items ≡ false → text' ≡ clipped text.most (text.items ++ line'.items) → ReadsAll r' text' a c
   part_ends_within text' d few empty end not h =
       let keeps = keeps_line d in
       let here : is_separator d.line ≡ false = sym (separator-kept_last 65538 d.line (omega arith)) ∙ ap (λ (l : Clipped). is_separator l.items) (sym keeps) ∙ not in
       record {
         read = s.read ++ d.bytes;
         few = read_few d few;
+        taken = few;
+        empty = empty;
         part = flat_map ended s.lines ++ d.line;
         is_part = part_at_end d few empty false ∙ rw (divided_none s.lines s.undivided, here) refl;
         does = does_more a b c s.read d.bytes [] none s.does d.does;

@@ -30,9 +30,11 @@ pub record Divides (r : Reader) (text : Clipped) (a b : Seen) : Type 0 where
   pub keeps : text ≡ kept_text (flat_map ended front)
 
 -- The whole input was read, and is the program part, without a separator behind it that ends with an LF.
-pub record ReadsAll (text : Clipped) (a b : Seen) : Type 0 where
+pub record ReadsAll (r : Reader) (text : Clipped) (a b : Seen) : Type 0 where
   pub read : List ℕ
   pub few : length read ≤ limit
+  pub taken : r.taken ≤ limit
+  pub empty : r.chunk ≡ []
   pub part : List ℕ
   pub is_part : part_of read false ≡ Some (record { text = part; lines = [] })
   pub does : Does a b read [] none
@@ -61,7 +63,7 @@ pub record PartStops (a b : Seen) : Type 0 where
 
 abbrev pub PartIs : Reader → Clipped → Bool → Seen → Seen → Type 0
 PartIs r text true a b = Divides r text a b
-PartIs r text false a b = ReadsAll text a b
+PartIs r text false a b = ReadsAll r text a b
 
 abbrev pub PartGives : Reader → Seen → Seen → Result PartText Stop → Type 0
 PartGives r a b (Ok p) = PartIs r p.text p.is_divided a b

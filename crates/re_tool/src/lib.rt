@@ -20,5 +20,4 @@ mod status;
 mod sums;
 mod tokens;
 
-
 pub use status::Status;

@@ -1,19 +1,21 @@
 //! A whole run over a stream.
-ghost use Rattle.std.specs.Prelude.{◌≡◌, ◌≢◌, ◌≤◌, ◌<◌, ◌+◌, ◌-◌, ◌^◌, [], length, true, IfOk};
+ghost use Rattle.std.specs.Prelude.{◌≡◌, ◌≢◌, ◌≤◌, ◌<◌, ◌+◌, ◌-◌, ◌^◌, length, Some};
 ghost use Rattle.re_outside.specs.Outside.{Seen};
 ghost use Rattle.re_tool.specs.Answers.{status_line};
 ghost use Rattle.re_tool.specs.Built.{IsBuilt};
 ghost use Rattle.re_tool.specs.Commands.{line_of};
 ghost use Rattle.re_tool.specs.Device.{Fits};
-ghost use Rattle.re_tool.specs.Grammar.{names_of};
+ghost use Rattle.re_tool.specs.Clipped.{Clipped};
+ghost use Rattle.re_tool.specs.Grammar.{names_of, program_of};
+ghost use Rattle.re_tool.specs.PartReading.{PartIs};
 ghost use Rattle.re_tool.specs.Reads.{limit};
 ghost use Rattle.re_tool.specs.Serving.{AnswersLine, TurnGives, Starts, said_of, is_blank_line};
 ghost use Rattle.re_tool.specs.Session.{Finishes, Runs};
 
 use crate::answer::print_answer;
 use crate::command::{Line, read_line};
-use crate::faults::ProgramFault;
 use crate::device::{Answer, Command, Device};
+use crate::faults::ProgramFault;
 use crate::line::ClippedLine;
 use crate::names::Names;
 use crate::part::{Stop, read_part, trim_return};
@@ -162,7 +164,14 @@ fn serve<O: Outside>(
             Err(Halt::Input) => return finish(out, Status::Input),
             Ok(Next::TooLong) => return finish(out, Status::TooLong),
             Ok(Next::Line) => {
-                match turn(alloc, program, names, device, trim_return(line.bytes()), out) {
+                match turn(
+                    alloc,
+                    program,
+                    names,
+                    device,
+                    trim_return(line.bytes()),
+                    out,
+                ) {
                     Ok(()) => {}
                     Err(Ended::Memory) => return finish(out, Status::Memory),
                     Err(Ended::Output) => return Status::Output,
@@ -177,4 +186,48 @@ fn serve<O: Outside>(
             }
         }
     }
+}
+
+/// Runs a program whose part was read, up to a separator or to the end of the input.
+fn run_program<O: Outside>(
+    alloc: Global,
+    program: &Program,
+    is_divided: bool,
+    reader: &mut Reader,
+    out: &mut O,
+) -> Status
+    requires built { IsBuilt program.now }
+    requires few { reader.old.taken ≤ limit }
+    requires ahead { length reader.old.chunk ≤ reader.old.taken }
+    ensures { (start : Seen) (text : Clipped) → PartIs reader.old text is_divided start (O.seen out.old) → program_of text.items ≡ Some program.now → Runs start (O.seen out.new) result }
+{
+    let Ok(names) = Names::of(alloc, program) else {
+        return finish(out, Status::Memory);
+    };
+    let Ok(mut device) = Device::start(alloc, program) else {
+        return finish(out, Status::Memory);
+    };
+    if !is_divided {
+        return Status::Done;
+    }
+    serve(alloc, program, &names, &mut device, reader, out)
+}
+
+/// Reads a program part and runs it.
+fn run<O: Outside>(alloc: Global, out: &mut O) -> Status
+    ensures { Runs (O.seen out.old) (O.seen out.new) result }
+{
+    let mut reader = Reader::new();
+    let part = match read_part(alloc, &mut reader, out) {
+        Ok(part) => part,
+        Err(Stop::Memory) => return finish(out, Status::Memory),
+        Err(Stop::Input) => return finish(out, Status::Input),
+        Err(Stop::TooLong) => return finish(out, Status::TooLong),
+    };
+    let program = match read_program(alloc, part.text.bytes()) {
+        Ok(program) => program,
+        Err(ProgramFault::Memory) => return finish(out, Status::Memory),
+        Err(ProgramFault::NotBuilt) => return finish(out, Status::Program),
+    };
+    run_program(alloc, &program, part.is_divided, &mut reader, out)
 }

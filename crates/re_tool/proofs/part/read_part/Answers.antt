@@ -42,7 +42,7 @@ pub returns-then-ends_part-2 : goal.returns-then-ends_part-2
 returns-then-ends_part-2 g c =
     let e = rw c.in-Ok-Line.field-0-is at c.in-Ok-Line.ensures in
     part_divides _ _ _ _ _ _ _ _ c.lines.invariant e.0 e.1
-        (ap (λ l. is_separator (without_return l)) (sym c.bytes-in-Ok-Line.ensures) ∙ ap is_separator (sym c.trim_return.ensures) ∙ sym c.ends_part-in-Ok-Line.ensures ∙ c.if-ends_part-2.true)
+    (ap (λ l. is_separator (without_return l)) (sym c.bytes-in-Ok-Line.ensures) ∙ ap is_separator (sym c.trim_return.ensures) ∙ sym c.ends_part-in-Ok-Line.ensures ∙ c.if-ends_part-2.true)
 
 pub lines-smaller : goal.lines-smaller
 lines-smaller g c =
@@ -53,8 +53,8 @@ pub lines-preserved : goal.lines-preserved
 lines-preserved g c =
     let e = rw c.in-Ok-Line.field-0-is at c.in-Ok-Line.ensures in
     part_more _ _ _ _ _ _ _ _ c.lines.invariant _ e.0 e.1
-        (ap (λ l. is_separator (without_return l)) (sym c.bytes-in-Ok-Line.ensures) ∙ ap is_separator (sym c.trim_return.ensures) ∙ sym c.ends_part-in-Ok-Line.ensures ∙ c.if-ends_part-2.false)
-        (rw c.bytes-in-Ok-Line-2.ensures at c.in-Ok-append_line.ensures)
+    (ap (λ l. is_separator (without_return l)) (sym c.bytes-in-Ok-Line.ensures) ∙ ap is_separator (sym c.trim_return.ensures) ∙ sym c.ends_part-in-Ok-Line.ensures ∙ c.if-ends_part-2.false)
+    (rw c.bytes-in-Ok-Line-2.ensures at c.in-Ok-append_line.ensures)
 
 pub returns-in_default-append_line : goal.returns-in_default-append_line
 returns-in_default-append_line g c =

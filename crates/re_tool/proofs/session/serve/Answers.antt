@@ -69,13 +69,13 @@ returns-in-Ok-End g c =
     let e = rw c.in-Ok-End.field-0-is at c.in-Ok-End.ensures in
     let q = λ (start : Seen) (h : Starts start (g.O.Outside.seen c.args.out.now) c.args.program.now c.args.reader.now c.args.device.now). ready_end _ _ _ _ _ _ _ _ _ (c.lines.invariant.so_far start h) e.0 e.1 e.2 e.3 in
     elim c.match-turn-2.branch [
-      in-Ok-turn w ↦
-        let t = rw c.bytes-in-Ok-End.ensures at w.in-Ok-turn.ensures.turns in
-        rw (w.out-is, w.result-is) (λ start h. runs_done _ _ _ _ _ _ (q start h).0 _ (q start h).1 e.3 (turns_kept_last _ _ _ _ _ _ _ _ e.0.keeps c.lines.invariant.most t))
+      | in-Ok-turn w ↦
+          let t = rw c.bytes-in-Ok-End.ensures at w.in-Ok-turn.ensures.turns in
+          rw (w.out-is, w.result-is) (λ start h. runs_done _ _ _ _ _ _ (q start h).0 _ (q start h).1 e.3 (turns_kept_last _ _ _ _ _ _ _ _ e.0.keeps c.lines.invariant.most t))
       | in-Err-Memory-turn-2 w ↦
-        let t = rw w.in-Err-Memory-turn-2.field-0-is at w.in-Err-Memory-turn-2.ensures.turns in
-        rw (w.out-is, w.result-is) (λ start h. near_finish _ _ _ _ (near_memory _ _ _ _ _ _ (q start h).0 t) _ (λ x. absurd (cc)) w.finish-in-Err-Memory-turn-2.ensures)
+          let t = rw w.in-Err-Memory-turn-2.field-0-is at w.in-Err-Memory-turn-2.ensures.turns in
+          rw (w.out-is, w.result-is) (λ start h. near_finish _ _ _ _ (near_memory _ _ _ _ _ _ (q start h).0 t) _ (λ x. absurd (cc)) w.finish-in-Err-Memory-turn-2.ensures)
       | in-Err-Output-turn w ↦
-        let t = rw (w.in-Err-Output-turn.field-0-is, c.bytes-in-Ok-End.ensures) at w.in-Err-Output-turn.ensures.turns in
-        rw (w.out-is, w.result-is) (λ start h. runs_output _ _ _ _ _ _ (q start h).0 _ (breaks_kept_last _ _ _ _ _ _ _ _ e.0.keeps c.lines.invariant.most t))
+          let t = rw (w.in-Err-Output-turn.field-0-is, c.bytes-in-Ok-End.ensures) at w.in-Err-Output-turn.ensures.turns in
+          rw (w.out-is, w.result-is) (λ start h. runs_output _ _ _ _ _ _ (q start h).0 _ (breaks_kept_last _ _ _ _ _ _ _ _ e.0.keeps c.lines.invariant.most t))
     ]

@@ -4,7 +4,7 @@ use Rattle.std.proofs.lemmas.Grind.{common_steps}
 use Rattle.re_tool.proofs.tokens.marks.Goals as goal
 
 pub loop-rest-init : goal.loop-rest-init
-loop-rest-init c = 
+loop-rest-init c =
     rw c.new-found.ensures.items (reads_first _ _ c.skip-rest.ensures)
 
 pub loop-rest-smaller : goal.loop-rest-smaller

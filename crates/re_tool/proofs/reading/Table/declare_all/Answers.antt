@@ -31,8 +31,8 @@ pub returns-in_err-declare-clause-not_built : goal.returns-in_err-declare-clause
 returns-in_err-declare-clause-not_built c =
     let d = rw c.in-Some.is at c.loop-left.invariant.read in
     λ e.
-        let same = rw e at c.from_residual.ensures in
-        declares_none _ _ _ _ (plain_marks c.in-Some.rest.now) d (c.in_err-declare.ensures.not_built (cc))
+    let same = rw e at c.from_residual.ensures in
+    declares_none _ _ _ _ (plain_marks c.in-Some.rest.now) d (c.in_err-declare.ensures.not_built (cc))
 
 pub returns-then-not-is_empty-clause-not_built : goal.returns-then-not-is_empty-clause-not_built
 returns-then-not-is_empty-clause-not_built c =
