@@ -1,5 +1,5 @@
 -- What the programs that can be run so far have.
-use Rattle.std.specs.Prelude.{ℕ, ◌≡◌, ◌≤◌, ◌&&◌, Bool, true, false, Some, length, nat_lt, slice_get}
+use Rattle.std.specs.Prelude.{ℕ, ◌≡◌, ◌≤◌, ◌&&◌, Bool, true, false, Some, length, nat_lt, option_map, slice_get}
 use Rattle.re_terms.specs.declared.word.Word.{Word}
 use Rattle.re_terms.specs.declared.word.Kind.{Kind}
 use Rattle.re_terms.specs.declared.word.Word.TheVariants as word
@@ -30,7 +30,8 @@ sum_step n e = false
 abbrev pub is_sum_below : ℕ → Expr → Bool
 is_sum_below n = fold-Expr Bool (sum_step n)
 
--- each signal is a sum of ints and of names that are declared before it
+-- the first declaration is the device, and each signal is a sum of ints and of names that are declared before it
 pub record IsBuilt (p : Program) : Type 0 where
   pub few : length p.decls.items ≤ 512
+  pub device : option_map (λ d. d.body) (slice_get p.decls.items 0) ≡ Some body.Device
   pub sums : (id : ℕ) (d : Decl) (kind : Kind) (expr : Expr) → slice_get p.decls.items id ≡ Some d → d.body ≡ body.Signal kind expr → is_sum_below id expr ≡ true
