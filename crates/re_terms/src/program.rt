@@ -137,3 +137,43 @@ impl TryCopy for Program {
         })
     }
 }
+
+#[cfg(test)]
+mod tests {
+    use super::*;
+    use crate::Op;
+    use sqlite_items::Boxed;
+    use std::test::Fail;
+
+    #[test]
+    fn copies_a_program(rt: HostRuntime) -> Result<(), Fail> {
+        let alloc = rt.alloc();
+        let sum = Expr::Bin {
+            op: Op::Add,
+            left: Boxed::new(alloc, Expr::Name(0))?,
+            right: Boxed::new(alloc, Expr::Lit(Word::Int(2)))?,
+        };
+        let mut decls = Seq::new(alloc);
+        decls.push(Decl {
+            name: Text::from_bytes(alloc, b"double")?,
+            body: Body::Signal {
+                kind: Kind::Int,
+                expr: sum,
+            },
+        })?;
+        let copied = Program { decls }.copy(alloc)?;
+        assert!(rt; copied.decls.len() == 1);
+        let decl = &copied.decls.as_slice()[0];
+        assert_eq!(rt; decl.name.as_slice(), b"double".as_slice());
+        assert!(rt;
+            matches!(
+                &decl.body,
+                Body::Signal {
+                    expr: Expr::Bin { op: Op::Add, .. },
+                    ..
+                }
+            )
+        );
+        Ok(())
+    }
+}

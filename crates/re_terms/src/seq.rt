@@ -170,3 +170,43 @@ impl<T: TryCopy + Drop> TryCopy for Seq<T> {
         })
     }
 }
+
+#[cfg(test)]
+mod tests {
+    use super::*;
+    use std::test::Fail;
+
+    #[test]
+    fn changes_a_list(rt: HostRuntime) -> Result<(), Fail> {
+        let alloc = rt.alloc();
+        let mut list = Seq::new(alloc);
+        assert!(rt; list.is_empty());
+        for value in [3u16, 5, 7] {
+            list.push(value)?;
+        }
+        assert!(rt; list.len() == 3);
+        list.insert(1, 4)?;
+        list.set(0, 2);
+        assert_eq!(rt; list.as_slice(), [2u16, 4, 5, 7].as_slice());
+        assert_eq!(rt; list.remove(2), 5);
+        list.truncate(2);
+        assert_eq!(rt; list.as_slice(), [2u16, 4].as_slice());
+        assert_eq!(rt; list.get(1).copied(), Some(4));
+        assert_eq!(rt; list.get(2).copied(), None);
+        Ok(())
+    }
+
+    #[test]
+    fn reserves_and_copies(rt: HostRuntime) -> Result<(), Fail> {
+        let alloc = rt.alloc();
+        let mut list = Seq::from_vec(vec![in alloc; 9u16, 8]?);
+        list.reserve(2)?;
+        let mut copied = list.copy(alloc)?;
+        copied.push(7)?;
+        assert_eq!(rt; copied.as_slice(), [9u16, 8, 7].as_slice());
+        assert_eq!(rt; list.as_slice(), [9u16, 8].as_slice());
+        let empty = Seq::<u16>::with_capacity(alloc, 4)?;
+        assert!(rt; empty.is_empty());
+        Ok(())
+    }
+}

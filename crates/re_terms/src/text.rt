@@ -145,3 +145,39 @@ impl TryCopy for Text {
         })
     }
 }
+
+#[cfg(test)]
+mod tests {
+    use super::*;
+    use std::test::Fail;
+
+    #[test]
+    fn changes_a_text(rt: HostRuntime) -> Result<(), Fail> {
+        let alloc = rt.alloc();
+        let mut text = Text::from_bytes(alloc, b"nose")?;
+        assert!(rt; text.len() == 4);
+        text.set(0, b'r');
+        text.push(b's')?;
+        text.insert(0, b'p')?;
+        assert_eq!(rt; text.as_slice(), b"proses".as_slice());
+        assert_eq!(rt; text.remove(0), b'p');
+        text.truncate(4);
+        assert_eq!(rt; text.as_slice(), b"rose".as_slice());
+        assert_eq!(rt; text.get(1).copied(), Some(b'o'));
+        assert!(rt; !text.is_empty());
+        Ok(())
+    }
+
+    #[test]
+    fn reserves_and_copies(rt: HostRuntime) -> Result<(), Fail> {
+        let alloc = rt.alloc();
+        let mut text = Text::new(alloc);
+        text.reserve(2)?;
+        let mut copied = text.copy(alloc)?;
+        copied.push(b'a')?;
+        assert_eq!(rt; copied.as_slice(), b"a".as_slice());
+        assert!(rt; text.is_empty());
+        assert!(rt; Text::with_capacity(alloc, 4)?.is_empty());
+        Ok(())
+    }
+}

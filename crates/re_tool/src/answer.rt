@@ -49,3 +49,25 @@ pub fn print_answer(alloc: Global, answer: Answer) -> Result<Vec<u8>, AllocError
     line.push(b'\n')?;
     Ok(line)
 }
+
+#[cfg(test)]
+mod tests {
+    use super::*;
+    use std::test::Fail;
+
+    #[test]
+    fn lines(rt: HostRuntime) -> Result<(), Fail> {
+        let cases = [
+            (Answer::Entered(12), b"ok 12\n".as_slice()),
+            (Answer::Value(Word::Int(-3)), b"-3\n".as_slice()),
+            (Answer::Value(Word::Bool(true)), b"true\n".as_slice()),
+            (Answer::Value(Word::Bool(false)), b"false\n".as_slice()),
+            (Answer::Value(Word::Fault(2)), b"fault 2\n".as_slice()),
+            (Answer::Refused(36), b"no 36\n".as_slice()),
+        ];
+        for (answer, line) in cases {
+            assert_eq!(rt; print_answer(rt.alloc(), answer)?.as_slice(), line);
+        }
+        Ok(())
+    }
+}

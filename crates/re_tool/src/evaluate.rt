@@ -41,3 +41,22 @@ pub fn evaluate(expr: &Expr, words: &[Word]) -> Word
         _ => unreachable!(),
     }
 }
+
+#[cfg(test)]
+mod tests {
+    use super::*;
+
+    #[test]
+    fn adds(rt: HostRuntime) {
+        let cases = [
+            (Word::Int(2), Word::Int(-5), Word::Int(-3)),
+            (Word::Int(i64::MAX), Word::Int(1), Word::Fault(1)),
+            (Word::Int(i64::MIN), Word::Int(-1), Word::Fault(1)),
+            (Word::Int(1), Word::Fault(2), Word::Fault(2)),
+            (Word::Fault(100), Word::Fault(2), Word::Fault(100)),
+        ];
+        for (a, b, sum) in cases {
+            assert_eq!(rt; add(a, b), sum);
+        }
+    }
+}
