@@ -18,23 +18,23 @@ use Rattle.re_tool.specs.Tokens.{Mark, Number, Name, Reserved, Sign, marks_of}
 use Rattle.re_tool.specs.Grammar.{only_if, is_sign, is_reserved, behind, named, is_none_left, is_device, is_var, is_value, names_in, place_of, placed, literal_of, term_of, added, sum_behind, sum_of_terms, sum_of, parts_of, plus, var_of, signal_of, body_of, statement_of, has_room, may_follow, declared_next, declarations, program_with, program_from, split, program_of}
 use Rattle.re_tool.specs.Built.{is_sum_below, sum_step, are_distinct, IsBuilt}
 
-if_then : {A B : Type 0} (o : Option A) (f : A → Option B) (P : A → Type 0) (Q : B → Type 0) → IfSome o P → ((x : A) → P x → IfSome (f x) Q) → IfSome (option_and_then f o) Q
+pub if_then : {A B : Type 0} (o : Option A) (f : A → Option B) (P : A → Type 0) (Q : B → Type 0) → IfSome o P → ((x : A) → P x → IfSome (f x) Q) → IfSome (option_and_then f o) Q
 if_then None f P Q h k = search rules
 if_then (Some x) f P Q h k = k x h
 
-if_any : {A B : Type 0} (o : Option A) (f : A → Option B) (Q : B → Type 0) → ((x : A) → IfSome (f x) Q) → IfSome (option_and_then f o) Q
+pub if_any : {A B : Type 0} (o : Option A) (f : A → Option B) (Q : B → Type 0) → ((x : A) → IfSome (f x) Q) → IfSome (option_and_then f o) Q
 if_any None f Q k = search rules
 if_any (Some x) f Q k = k x
 
-if_true : {A : Type 0} (c : Bool) (x : A) (Q : A → Type 0) → (c ≡ true → Q x) → IfSome (cond c (Some x) None) Q
+pub if_true : {A : Type 0} (c : Bool) (x : A) (Q : A → Type 0) → (c ≡ true → Q x) → IfSome (cond c (Some x) None) Q
 if_true true x Q k = k refl
 if_true false x Q k = search rules
 
-if_both : {A : Type 0} (c : Bool) (a b : Option A) (Q : A → Type 0) → IfSome a Q → IfSome b Q → IfSome (cond c a b) Q
+pub if_both : {A : Type 0} (c : Bool) (a b : Option A) (Q : A → Type 0) → IfSome a Q → IfSome b Q → IfSome (cond c a b) Q
 if_both true a b Q h k = h
 if_both false a b Q h k = k
 
-if_none : {A : Type 0} (Q : A → Type 0) → IfSome None Q
+pub if_none : {A : Type 0} (Q : A → Type 0) → IfSome None Q
 if_none Q = search rules
 
 is_sum-name : (n id : ℕ) → is_sum_below n (expr.Name id) ≡ nat_lt id n
@@ -53,7 +53,7 @@ weaken : {A : Type 0} (o : Option A) (P Q : A → Type 0) → IfSome o P → ((x
 weaken None P Q h k = search rules
 weaken (Some x) P Q h k = k x h
 
-got_below : (decls : List Decl) (id : ℕ) → IfSome (slice_get decls id) (λ d. id < length decls)
+pub got_below : (decls : List Decl) (id : ℕ) → IfSome (slice_get decls id) (λ d. id < length decls)
 got_below [] id = search rules
 got_below (d ∷ decls) zero = omega arith
 got_below (d ∷ decls) (suc id) = weaken (slice_get decls id) _ _ (got_below decls id) (λ x h. omega arith)
