@@ -112,3 +112,42 @@ pub fn read_line(
         Err(MarksFault::Memory) => Err(AllocError),
     }
 }
+
+#[cfg(test)]
+mod tests {
+    use super::*;
+    use crate::reading::read_program;
+    use std::test::Fail;
+
+    #[test]
+    fn reads_lines(rt: HostRuntime) -> Result<(), Fail> {
+        let alloc = rt.alloc();
+        let p = read_program(alloc, b"device a; var x: int = 0; signal s = x + 1;")?;
+        let names = Names::of(alloc, &p)?;
+        let cases: [(&[u8], Line); 16] = [
+            (b"", Line::Blank),
+            (b" # turn a x = 1", Line::Blank),
+            (b"turn a x = 5", Line::Turn { id: 1, number: 5 }),
+            (b"turn a x=- 5 # five", Line::Turn { id: 1, number: -5 }),
+            (b"turn a x = -9223372036854775808", Line::Turn { id: 1, number: i64::MIN }),
+            (b"turn a x = 9223372036854775808", Line::Bad),
+            (b"turn a s = 1", Line::Bad),
+            (b"turn b x = 1", Line::Bad),
+            (b"turn x x = 1", Line::Bad),
+            (b"turn a x = 1, x = 2", Line::Bad),
+            (b"get a x", Line::Get { id: 1 }),
+            (b"get a s\r", Line::Get { id: 2 }),
+            (b"get a a", Line::Bad),
+            (b"get b x", Line::Bad),
+            (b"get a x x", Line::Bad),
+            (b"get a !", Line::Bad),
+        ];
+        for (line, wanted) in cases {
+            assert_eq!(rt; read_line(alloc, line, &p, &names)?, wanted);
+        }
+        let long = vec![in alloc; b' '; 1_025]?;
+        assert_eq!(rt; read_line(alloc, &long, &p, &names)?, Line::Bad);
+        assert_eq!(rt; read_line(alloc, &long[..1_024], &p, &names)?, Line::Blank);
+        Ok(())
+    }
+}
