@@ -114,8 +114,8 @@ signal_sums earlier marks = if_any (behind (is_sign 2) marks) _ _ (λ terms. if_
 body_has_sum : (earlier : List Decl) (first : Mark) (marks : List Mark) → IfSome (body_of earlier first marks) (HasSum (length earlier))
 body_has_sum earlier first marks =
     if_both (is_reserved 0 first) (only_if (is_none_left marks) body.Device) _ (HasSum (length earlier)) (if_true (is_none_left marks) body.Device (HasSum (length earlier)) (λ e. device_has_sum (length earlier)))
-      (if_both (is_reserved 2 first) (var_of marks) _ (HasSum (length earlier)) (var_has_sum (length earlier) marks)
-        (if_both (is_reserved 4 first) (signal_of earlier marks) None (HasSum (length earlier)) (signal_sums earlier marks) (if_none (HasSum (length earlier)))))
+    (if_both (is_reserved 2 first) (var_of marks) _ (HasSum (length earlier)) (var_has_sum (length earlier) marks)
+    (if_both (is_reserved 4 first) (signal_of earlier marks) None (HasSum (length earlier)) (signal_sums earlier marks) (if_none (HasSum (length earlier)))))
 
 statement_has_sum : (earlier : List Decl) (statement : List Mark) → IfSome (statement_of earlier statement) (λ d. HasSum (length earlier) d.body)
 statement_has_sum earlier [] = search rules

@@ -33,19 +33,19 @@ runs_on (Some part) s x h =
     (elim (program_of part.text) as (λ o. option_map (λ p. let y : Session = record { program = p; lines = part.lines } in y) o ≡ Some x → status_with o s ≡ s) [ None ↦ λ h. absurd (cc) | Some q ↦ λ h. refl ]) h
 
 -- what a run says of a session that it came to the end of
-answers_to : (read : List ℕ) (failed : Bool) (p : Program) (lines : List (List ℕ)) (os : List Outcome) (s : Status) → session_of read failed ≡ with_lines p lines → ending read failed ≡ s
+pub answers_to : (read : List ℕ) (failed : Bool) (p : Program) (lines : List (List ℕ)) (os : List Outcome) (s : Status) → session_of read failed ≡ with_lines p lines → ending read failed ≡ s
     → answers read record { commands = os; input_failed = failed; stopped = None } ≡ close s (texts p (start_world p) lines os)
 answers_to read failed p lines os s is e =
     ap (λ x. close x (session_text (session_of read failed) os)) (runs_on (part_of read failed) (ending read failed) (record { program = p; lines = lines }) is ∙ e)
     ∙ ap (λ x. close s (session_text x os)) is
 
-ends_input : (read : List ℕ) → length read ≤ limit → ending read true ≡ status.Input
+pub ends_input : (read : List ℕ) → length read ≤ limit → ending read true ≡ status.Input
 ends_input read h = rw (le-ltb limit (length read) h) refl
 
-ends_done : (read : List ℕ) → length read ≤ limit → ending read false ≡ status.Done
+pub ends_done : (read : List ℕ) → length read ≤ limit → ending read false ≡ status.Done
 ends_done read h = rw (le-ltb limit (length read) h) refl
 
-ends_long : (read : List ℕ) (failed : Bool) → limit < length read → ending read failed ≡ status.TooLong
+pub ends_long : (read : List ℕ) (failed : Bool) → limit < length read → ending read failed ≡ status.TooLong
 ends_long read failed h = rw (lt-ltb limit (length read) h) refl
 
 at_least : (xs ys : List (List ℕ)) → length xs ≤ length (xs ++ ys)

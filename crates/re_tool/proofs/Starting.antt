@@ -67,9 +67,9 @@ near_part_is a b r text false s = near_stops a b s.read s.few s.does
 -- what is said where there is no session
 no_session : (read : List ℕ) (failed : Bool) (part : Option Part) (s : Status) → part_of read failed ≡ part → session_in part ≡ None → status_in part (ending read failed) ≡ s
     → answers read record { commands = []; input_failed = failed; stopped = None } ≡ close s []
-no_session read failed part s is no st =
+no_session read failed part s is lacks st =
     ap (λ x. close x (session_text (session_of read failed) [])) (ap (λ x. status_in x (ending read failed)) is ∙ st)
-    ∙ ap (λ x. close s (session_text x [])) (ap session_in is ∙ no)
+    ∙ ap (λ x. close s (session_text x [])) (ap session_in is ∙ lacks)
 
 -- the input failed before the program part ended
 pub near_part_failed : (a b : Seen) → PartFails a b → Near a b status.Input
@@ -107,9 +107,9 @@ near_part_too_long a b f =
 
 -- a program part that is no program ends the run
 refused : (a b : Seen) (read : List ℕ) (part : Part) → length read ≤ limit → part_of read false ≡ Some part → program_of part.text ≡ None → Does a b read [] none → HasSeparator read ⊎ IsAtEnd b → Near a b status.Program
-refused a b read part few is no d far =
-    let none_in : session_in (Some part) ≡ None = rw no refl in
-    let st : status_in (Some part) (ending read false) ≡ status.Program = rw no refl in
+refused a b read part few is lacks d far =
+    let none_in : session_in (Some part) ≡ None = rw lacks refl in
+    let st : status_in (Some part) (ending read false) ≡ status.Program = rw lacks refl in
     let none : session_of read false ≡ None = ap session_in is ∙ none_in in
     record {
       read = read;
@@ -146,11 +146,11 @@ module _ (a b : Seen) (r : Reader) (text : Clipped) (d : Divides r text a b) whe
   has_separator : HasSeparator d.read
   has_separator =
       let e : divided (split d.read).0 ≡ Some (d.front, (split r.chunk).0) = ap (λ (q : List (List ℕ) × List ℕ). divided q.0) divided_split ∙ d.divides (split r.chunk).0 in
-      subst IsSome (sym e) tt
+      subst IsSome (sym e) refl
 
   pub near_divided_refused : program_of text.items ≡ None → Near a b status.Program
-  near_divided_refused no =
-      refused a b d.read (record { text = flat_map ended d.front; lines = map without_return (split r.chunk).0 ++ (split r.chunk).1 ∷ [] }) divided_short is_divided_part (kept_program text (flat_map ended d.front) None d.keeps no) d.does (inl has_separator)
+  near_divided_refused lacks =
+      refused a b d.read (record { text = flat_map ended d.front; lines = map without_return (split r.chunk).0 ++ (split r.chunk).1 ∷ [] }) divided_short is_divided_part (kept_program text (flat_map ended d.front) None d.keeps lacks) d.does (inl has_separator)
 
   pub divided_starts : (p : Program) (device : DeviceState) → program_of text.items ≡ Some p → Represents p (start_world p) device → Starts a b p r device
   divided_starts p device is rep = record {
@@ -169,7 +169,7 @@ module _ (a b : Seen) (r : Reader) (text : Clipped) (d : Divides r text a b) whe
 
 module _ (a b : Seen) (r : Reader) (text : Clipped) (d : ReadsAll r text a b) where
   pub near_all_refused : program_of text.items ≡ None → Near a b status.Program
-  near_all_refused no = refused a b d.read (record { text = d.part; lines = [] }) d.few d.is_part (kept_program text d.part None d.keeps no) d.does (inr d.end)
+  near_all_refused lacks = refused a b d.read (record { text = d.part; lines = [] }) d.few d.is_part (kept_program text d.part None d.keeps lacks) d.does (inr d.end)
 
   pub all_done : (p : Program) → program_of text.items ≡ Some p → Runs a b status.Done
   all_done p is =
@@ -191,10 +191,16 @@ module _ (a b : Seen) (r : Reader) (text : Clipped) (d : ReadsAll r text a b) wh
       }
 
 pub near_refused : (a b : Seen) (r : Reader) (text : Clipped) (d : Bool) → PartIs r text d a b → program_of text.items ≡ None → Near a b status.Program
-near_refused a b r text true s no = near_divided_refused a b r text s no
-near_refused a b r text false s no = near_all_refused a b r text s no
+near_refused a b r text true s lacks = near_divided_refused a b r text s lacks
+near_refused a b r text false s lacks = near_all_refused a b r text s lacks
 
 -- what is ahead was taken
 pub part_ahead : (a b : Seen) (r : Reader) (text : Clipped) (d : Bool) → PartIs r text d a b → (r.taken ≤ limit) × (length r.chunk ≤ r.taken)
 part_ahead a b r text true s = (s.few, omega (arith, s.taken, ap length s.whole, length-append (flat_map ended s.head) r.chunk))
 part_ahead a b r text false s = (s.taken, omega (arith, ap length s.empty))
+
+pub part_is_divided : (a b : Seen) (r : Reader) (text : Clipped) (d : Bool) → d ≡ true → PartIs r text d a b → Divides r text a b
+part_is_divided a b r text d e h = subst (λ x. PartIs r text x a b) e h
+
+pub part_is_all : (a b : Seen) (r : Reader) (text : Clipped) (d : Bool) → d ≡ false → PartIs r text d a b → ReadsAll r text a b
+part_is_all a b r text d e h = subst (λ x. PartIs r text x a b) e h

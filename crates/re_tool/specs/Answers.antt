@@ -29,13 +29,21 @@ abbrev pub others : List Outcome → List Outcome
 others [] = []
 others (o ∷ os) = os
 
--- what a line says: nothing where it is blank, and else its command's answer or a refusal
+-- the answer to a line: none where it is blank, and else its command's or a refusal
+abbrev pub line_answer : Program → World → Line → Outcome → Option PlainAnswer
+line_answer p w line.Blank o = None
+line_answer p w line.Bad Fine = Some (Refused 20)
+line_answer p w line.Bad Memory = Some (Refused 36)
+line_answer p w (line.Turn id number) o = Some (reply p w (TakeTurn (record { id = id; word = word.Int number } ∷ [])) o)
+line_answer p w (line.Get id) o = Some (reply p w (Get id) o)
+
+abbrev pub said_answer : Option PlainAnswer → List ℕ
+said_answer None = []
+said_answer (Some answer) = reply_text answer
+
+-- what a line says
 abbrev pub line_text : Program → World → Line → Outcome → List ℕ
-line_text p w line.Blank o = []
-line_text p w line.Bad Fine = reply_text (Refused 20)
-line_text p w line.Bad Memory = reply_text (Refused 36)
-line_text p w (line.Turn id number) o = reply_text (reply p w (TakeTurn (record { id = id; word = word.Int number } ∷ [])) o)
-line_text p w (line.Get id) o = reply_text (reply p w (Get id) o)
+line_text p w l o = said_answer (line_answer p w l o)
 
 -- the world behind a line
 abbrev pub line_after : Program → World → Line → Outcome → World

@@ -19,3 +19,4 @@ pub mod Status
 pub mod Texts
 pub mod Table
 pub mod Tokens
+pub mod Words

@@ -19,5 +19,7 @@ mod session;
 mod status;
 mod sums;
 mod tokens;
+mod words;
 
 pub use status::Status;
+pub use words::{Job, Wish, WordFault, read_words};

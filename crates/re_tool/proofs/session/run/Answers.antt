@@ -1,45 +1,30 @@
-use Rattle.std.proofs.Common.{rules, ◌≡◌, ◌≢◌, ◌≤◌, ◌<◌, ◌+◌, ◌-◌, ◌^◌, length, Some, ℕ, ◌*◌, ◌/◌, ◌%◌, Bool, true, false, nat_eq, nat_lt, List, [], ◌∷◌, ◌++◌, slice_index_or, slice_set, bit_and, bit_or, w8, w32, w64, Bor, MutBor}
-use Rattle.re_outside.specs.Outside.{Seen}
-use Rattle.re_tool.specs.Answers.{status_line}
-use Rattle.re_tool.specs.Built.{IsBuilt}
-use Rattle.re_tool.specs.Commands.{line_of}
-use Rattle.re_tool.specs.Device.{Fits}
-use Rattle.re_tool.specs.Clipped.{Clipped}
-use Rattle.re_tool.specs.Grammar.{names_of, program_of}
-use Rattle.re_tool.specs.PartReading.{PartIs}
-use Rattle.re_tool.specs.Reads.{limit}
-use Rattle.re_tool.specs.Serving.{AnswersLine, TurnGives, Starts, said_of, is_blank_line}
-use Rattle.re_tool.specs.Session.{Finishes, Runs}
+use Rattle.std.proofs.Common.{◌∙◌, sym, ap, Err}
+use Rattle.re_tool.specs.Grammar.{program_of}
+use Rattle.re_tool.proofs.Endings.{near_finish}
+use Rattle.re_tool.proofs.Starting.{near_part_stops, near_part_failed, near_part_too_long, near_part_is, near_refused, part_ahead}
 use Rattle.re_tool.proofs.session.run.Goals as goal
 
--- src/session.rt:223:30
 pub returns-in-Err-Memory : goal.returns-in-Err-Memory
-returns-in-Err-Memory g c = ?
+returns-in-Err-Memory g c = near_finish _ _ _ _ (near_part_stops _ _ (rw c.in-Err-Memory.field-0-is at c.in-Err-Memory.ensures)) _ (λ q. absurd (cc)) c.finish.ensures
 
--- src/session.rt:224:29
 pub returns-in-Err-Input : goal.returns-in-Err-Input
-returns-in-Err-Input g c = ?
+returns-in-Err-Input g c = near_finish _ _ _ _ (near_part_failed _ _ (rw c.in-Err-Input.field-0-is at c.in-Err-Input.ensures)) _ (λ q. absurd (cc)) c.finish-in-Err-Input.ensures
 
--- src/session.rt:225:31
 pub returns-in-Err-TooLong : goal.returns-in-Err-TooLong
-returns-in-Err-TooLong g c = ?
+returns-in-Err-TooLong g c = near_finish _ _ _ _ (near_part_too_long _ _ (rw c.in-Err-TooLong.field-0-is at c.in-Err-TooLong.ensures)) _ (λ q. absurd (cc)) c.finish-in-Err-TooLong.ensures
 
--- src/session.rt:229:38
 pub returns-in-Err-Memory-read_program : goal.returns-in-Err-Memory-read_program
-returns-in-Err-Memory-read_program g c = ?
+returns-in-Err-Memory-read_program g c = near_finish _ _ _ _ (near_part_is _ _ _ _ _ c.in-Ok.ensures) _ (λ q. absurd (cc)) c.finish-in-Err-Memory-read_program.ensures
 
--- src/session.rt:230:40
 pub returns-in-Err-NotBuilt : goal.returns-in-Err-NotBuilt
-returns-in-Err-NotBuilt g c = ?
+returns-in-Err-NotBuilt g c =
+    near_finish _ _ _ _ (near_refused _ _ _ _ _ c.in-Ok.ensures (ap program_of (sym c.bytes.ensures) ∙ c.read_program.ensures.not_built (c.in-Err-NotBuilt.is ∙ ap (λ x. Err x) c.in-Err-NotBuilt.field-0-is))) _ (λ q. absurd (cc)) c.finish-in-Err-NotBuilt.ensures
 
--- src/session.rt:232:5
 pub run_program-requires-clause-few : goal.run_program-requires-clause-few
-run_program-requires-clause-few g c = ?
+run_program-requires-clause-few g c = (part_ahead _ _ _ _ _ c.in-Ok.ensures).0
 
--- src/session.rt:232:5
 pub run_program-requires-clause-ahead : goal.run_program-requires-clause-ahead
-run_program-requires-clause-ahead g c = ?
+run_program-requires-clause-ahead g c = (part_ahead _ _ _ _ _ c.in-Ok.ensures).1
 
--- src/session.rt:217:1
 pub returns : goal.returns
-returns g c = ?
+returns g c = c.run_program.ensures _ _ c.in-Ok.ensures (ap program_of (sym c.bytes.ensures) ∙ c.in-Ok-read_program.ensures.read)

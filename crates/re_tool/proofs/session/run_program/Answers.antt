@@ -1,29 +1,18 @@
-use Rattle.std.proofs.Common.{rules, ◌≡◌, ◌≢◌, ◌≤◌, ◌<◌, ◌+◌, ◌-◌, ◌^◌, length, Some, ℕ, ◌*◌, ◌/◌, ◌%◌, Bool, true, false, nat_eq, nat_lt, List, [], ◌∷◌, ◌++◌, slice_index_or, slice_set, bit_and, bit_or, w8, w32, w64, Bor, MutBor}
+use Rattle.std.proofs.Common.{subst}
 use Rattle.re_outside.specs.Outside.{Seen}
-use Rattle.re_tool.specs.Answers.{status_line}
-use Rattle.re_tool.specs.Built.{IsBuilt}
-use Rattle.re_tool.specs.Commands.{line_of}
-use Rattle.re_tool.specs.Device.{Fits}
-use Rattle.re_tool.specs.Clipped.{Clipped}
-use Rattle.re_tool.specs.Grammar.{names_of, program_of}
 use Rattle.re_tool.specs.PartReading.{PartIs}
-use Rattle.re_tool.specs.Reads.{limit}
-use Rattle.re_tool.specs.Serving.{AnswersLine, TurnGives, Starts, said_of, is_blank_line}
-use Rattle.re_tool.specs.Session.{Finishes, Runs}
+use Rattle.re_tool.proofs.Endings.{near_finish}
+use Rattle.re_tool.proofs.Starting.{near_part_is, all_done, divided_starts, part_is_divided, part_is_all}
 use Rattle.re_tool.proofs.session.run_program.Goals as goal
 
--- src/session.rt:205:9
 pub returns-in_default : goal.returns-in_default
-returns-in_default g c = ?
+returns-in_default g c = λ start text h is. near_finish _ _ _ _ (near_part_is _ _ _ _ _ h) _ (λ q. absurd (cc)) c.finish.ensures
 
--- src/session.rt:208:9
 pub returns-in_default-start : goal.returns-in_default-start
-returns-in_default-start g c = ?
+returns-in_default-start g c = λ start text h is. near_finish _ _ _ _ (near_part_is _ _ _ _ _ h) _ (λ q. absurd (cc)) c.finish-in_default-start.ensures
 
--- src/session.rt:211:9
 pub returns-then-not-is_divided : goal.returns-then-not-is_divided
-returns-then-not-is_divided g c = ?
+returns-then-not-is_divided g c = λ start text h is. all_done _ _ _ _ (part_is_all _ _ _ _ _ c.if-not-is_divided.true h) _ is
 
--- src/session.rt:192:1
 pub returns : goal.returns
-returns g c = ?
+returns g c = λ start text h is. c.serve.ensures start (divided_starts _ _ _ _ (part_is_divided _ _ _ _ _ c.if-not-is_divided.false h) _ _ is c.in-Ok-start.ensures.represents)
