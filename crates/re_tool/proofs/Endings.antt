@@ -247,10 +247,13 @@ well_plus : (f : Bool) → plus (faults_of f false) none ≡ faults_of f false
 well_plus true = refl
 well_plus false = refl
 
+separated_on : (read : List ℕ) (b c : Seen) {text : List ℕ} {f : Faults} → Does b c [] text f → HasSeparator read ⊎ IsAtEnd b → HasSeparator read ⊎ IsAtEnd c
+separated_on read b c d (inl h) = inl h
+separated_on read b c d (inr h) = inr (at_end b c _ _ d h)
+
 far_on : (s : Status) (read : List ℕ) (o : Outcomes) (b c : Seen) {text : List ℕ} {f : Faults} → Does b c [] text f → ReadFar s read o b → ReadFar s read o c
 far_on status.Done read o b c d h = at_end b c _ _ d h
-far_on status.Program read o b c d (inl h) = inl h
-far_on status.Program read o b c d (inr h) = inr (at_end b c _ _ d h)
+far_on status.Program read o b c d h = (h.0, separated_on read b c d h.1)
 far_on status.Memory read o b c d (inl h) = inl h
 far_on status.Memory read o b c d (inr h) = inr (at_end b c _ _ d h)
 far_on status.Output read o b c d (inl h) = inl h

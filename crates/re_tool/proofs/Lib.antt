@@ -1,3 +1,4 @@
+pub mod Caused
 pub mod Clipping
 pub mod Orders
 pub mod Programs

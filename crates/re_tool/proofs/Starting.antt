@@ -122,7 +122,7 @@ refused a b read part few is lacks d far =
       ordered = subst (λ x. OrderedIn a b x [] []) (sym none) refl;
       answer = no_session read false (Some part) status.Program is none_in st;
       complete = inl (omega (arith, ap (λ x. length (lines_of x)) none));
-      far = far;
+      far = (few, far);
     }
 
 kept_program : (text : Clipped) (part : List ℕ) (o : Option Program) → text ≡ record { items = take 65537 part; most = 65537 } → program_of text.items ≡ o → program_of part ≡ o

@@ -1,6 +1,7 @@
 pub mod Acts
 pub mod Answers
 pub mod Built
+pub mod Causes
 pub mod Clipped
 pub mod Commands
 pub mod Device

@@ -6,8 +6,8 @@ use Rattle.re_terms.specs.World.{World, Outcome, start_world}
 use Rattle.re_outside.specs.Outside.{Seen, Does, Breaks, none}
 use Rattle.re_tool.specs.declared.device.Answer.{Answer}
 use Rattle.re_tool.specs.declared.reader.Reader.{Reader}
-use Rattle.re_tool.specs.declared.session.Ended.{Ended}
-use Rattle.re_tool.specs.declared.session.Ended.TheVariants as ended_by
+use Rattle.re_tool.specs.declared.running.Ended.{Ended}
+use Rattle.re_tool.specs.declared.running.Ended.TheVariants as ended_by
 use Rattle.re_tool.specs.Acts.{ActOn}
 use Rattle.re_tool.specs.Answers.{line_text, line_after}
 use Rattle.re_tool.specs.Commands.{line_of}

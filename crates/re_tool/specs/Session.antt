@@ -43,11 +43,12 @@ lines_of (Some s) = s.lines
 abbrev pub AreComplete : List ℕ → Outcomes → Type 0
 AreComplete read o = length (lines_of (done read o)) ≤ length (lines_of (session_of read true))
 
--- how far the input was read: to its end where the status is 0, to the separator or the end where it is 3,
+-- how far the input was read: to its end where the status is 0, to the separator or the end and no further than
+-- the limit where it is 3,
 -- and past each line that was done
 abbrev pub ReadFar : Status → List ℕ → Outcomes → Seen → Type 0
 ReadFar status.Done read o new = IsAtEnd new
-ReadFar status.Program read o new = HasSeparator read ⊎ IsAtEnd new
+ReadFar status.Program read o new = (length read ≤ limit) × (HasSeparator read ⊎ IsAtEnd new)
 ReadFar status.Memory read o new = AreComplete read o ⊎ IsAtEnd new
 ReadFar status.Output read o new = AreComplete read o ⊎ IsAtEnd new
 ReadFar s read o new = Unit {0}
@@ -72,3 +73,7 @@ pub record Runs (old new : Seen) (s : Status) : Type 0 where
 abbrev pub Finishes : Seen → Seen → Status → Status → Type 0
 Finishes old new s status.Output = Breaks old new (status_line s) none
 Finishes old new s r = (r ≡ s) × Does old new [] (status_line s) none
+
+-- The words were refused, or memory ran out for them.
+abbrev pub Refuses : Seen → Seen → Status → Type 0
+Refuses old new s = Finishes old new status.Words s ⊎ Finishes old new status.Memory s

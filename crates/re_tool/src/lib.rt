@@ -15,11 +15,14 @@ mod part;
 mod patterns;
 mod reader;
 mod reading;
-mod session;
+mod running;
 mod status;
 mod sums;
 mod tokens;
+mod top;
 mod words;
 
+pub use running::session;
 pub use status::Status;
+pub use top::tool;
 pub use words::{Job, Wish, WordFault, read_words};

@@ -4,7 +4,7 @@ use Rattle.re_tool.specs.Device.{Fits}
 use Rattle.re_tool.specs.Reads.{limit}
 use Rattle.re_tool.specs.Serving.{Starts}
 use Rattle.re_tool.proofs.Sessions.{SoFar}
-use Rattle.re_tool.proofs.session.serve.Given as goal
+use Rattle.re_tool.proofs.running.serve.Given as goal
 
 abbrev pub invariant-lines : goal.invariant-lines
 invariant-lines g l = let seen = g.O.Outside.seen in record {

@@ -3,7 +3,7 @@ use Rattle.re_outside.specs.Outside.{Seen}
 use Rattle.re_tool.specs.PartReading.{PartIs}
 use Rattle.re_tool.proofs.Endings.{near_finish}
 use Rattle.re_tool.proofs.Starting.{near_part_is, all_done, divided_starts, part_is_divided, part_is_all}
-use Rattle.re_tool.proofs.session.run_program.Goals as goal
+use Rattle.re_tool.proofs.running.run_program.Goals as goal
 
 pub returns-in_default : goal.returns-in_default
 returns-in_default g c = λ start text h is. near_finish _ _ _ _ (near_part_is _ _ _ _ _ h) _ (λ q. absurd (cc)) c.finish.ensures

@@ -2,7 +2,7 @@ use Rattle.std.proofs.Common.{◌∙◌, sym, ap, Err}
 use Rattle.re_tool.specs.Grammar.{program_of}
 use Rattle.re_tool.proofs.Endings.{near_finish}
 use Rattle.re_tool.proofs.Starting.{near_part_stops, near_part_failed, near_part_too_long, near_part_is, near_refused, part_ahead}
-use Rattle.re_tool.proofs.session.run.Goals as goal
+use Rattle.re_tool.proofs.running.run.Goals as goal
 
 pub returns-in-Err-Memory : goal.returns-in-Err-Memory
 returns-in-Err-Memory g c = near_finish _ _ _ _ (near_part_stops _ _ (rw c.in-Err-Memory.field-0-is at c.in-Err-Memory.ensures)) _ (λ q. absurd (cc)) c.finish.ensures

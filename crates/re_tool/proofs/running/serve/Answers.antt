@@ -8,8 +8,8 @@ use Rattle.re_tool.proofs.Sessions.{starts_so_far, ready_line, ready_end, so_far
 use Rattle.re_tool.proofs.Endings.{near_failed, near_too_long, near_halted, near_memory, runs_output, runs_done, near_finish}
 use Rattle.re_tool.proofs.Serves.{turns_kept, breaks_kept, turns_kept_last, breaks_kept_last, number_more}
 use Rattle.re_tool.proofs.Parts.{line_smaller}
-use Rattle.re_tool.proofs.session.serve.Goals as goal
-use Rattle.re_tool.proofs.session.serve.Goals.{in-Ok-turn, in-Err-Memory-turn-2, in-Err-Output-turn}
+use Rattle.re_tool.proofs.running.serve.Goals as goal
+use Rattle.re_tool.proofs.running.serve.Goals.{in-Ok-turn, in-Err-Memory-turn-2, in-Err-Output-turn}
 
 pub lines-init : goal.lines-init
 lines-init g c = record {

@@ -3,6 +3,7 @@ ghost use Rattle.std.specs.Prelude.{◌≡◌, ◌≢◌, ◌≤◌, ◌<◌, �
 ghost use Rattle.re_outside.specs.Outside.{Seen};
 ghost use Rattle.re_tool.specs.Answers.{status_line};
 ghost use Rattle.re_tool.specs.Built.{IsBuilt};
+ghost use Rattle.re_tool.specs.Causes.{EndCause, ProgramCause, InputCause, OutputCause, TooLongCause};
 ghost use Rattle.re_tool.specs.Commands.{line_of};
 ghost use Rattle.re_tool.specs.Device.{Fits};
 ghost use Rattle.re_tool.specs.Clipped.{Clipped};
@@ -23,6 +24,7 @@ use crate::reader::{Halt, Next, Reader};
 use crate::reading::read_program;
 use crate::status::Status;
 use crate::tokens::is_blank_text;
+use crate::words::Job;
 use re_outside::{Outside, say_all};
 use re_terms::Program;
 use std::alloc::Global;
@@ -230,4 +232,21 @@ fn run<O: Outside>(alloc: Global, out: &mut O) -> Status
         Err(ProgramFault::NotBuilt) => return finish(out, Status::Program),
     };
     run_program(alloc, &program, part.is_divided, &mut reader, out)
+}
+
+/// Does a job over the input and the output of an outside, and gives the status that it ends with.
+///
+/// What it says is a function of the bytes read and of what failed: `docs/SESSION.md` has the
+/// answers, and when each status comes. Memory for the input is constant, whatever its length.
+pub fn session<O: Outside>(alloc: Global, job: &Job, out: &mut O) -> Status
+    ensures runs { Runs (O.seen out.old) (O.seen out.new) result }
+    ensures end { EndCause (O.seen out.old) (O.seen out.new) result }
+    ensures program { ProgramCause (O.seen out.old) (O.seen out.new) result }
+    ensures input { InputCause (O.seen out.old) (O.seen out.new) result }
+    ensures output { OutputCause (O.seen out.old) (O.seen out.new) result }
+    ensures too_long { TooLongCause (O.seen out.old) (O.seen out.new) result }
+{
+    match job {
+        Job::Run => run(alloc, out),
+    }
 }

@@ -4,7 +4,7 @@ use Rattle.re_tool.specs.Answers.{line_text, line_after}
 use Rattle.re_tool.specs.Commands.{line_of}
 use Rattle.re_tool.specs.Device.{Represents}
 use Rattle.re_tool.proofs.LineKinds.{blank_is, not_blank, refused_says, refused_keeps, turn_meant, get_meant, step_number}
-use Rattle.re_tool.proofs.session.answer_line.Goals as goal
+use Rattle.re_tool.proofs.running.answer_line.Goals as goal
 
 pub returns-then-is_blank_line-clause-answers : goal.returns-then-is_blank_line-clause-answers
 returns-then-is_blank_line-clause-answers c =
