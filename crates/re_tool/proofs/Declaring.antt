@@ -1,12 +1,10 @@
 -- How a program is read declaration by declaration.
-use Rattle.std.proofs.Common.{ℕ, zero, suc, ◌≡◌, ◌+◌, ◌<◌, ◌≤◌, List, [], ◌∷◌, length, Option, Some, None, option_and_then, refl, sym, ap, ◌∙◌, arith}
-use Rattle.std.specs.List.{position}
-use Rattle.re_terms.specs.Listed.{Listed, plain}
+use Rattle.std.proofs.Common.{ℕ, ◌≡◌, ◌<◌, List, [], ◌∷◌, length, Option, Some, None, option_and_then, refl, sym, ap, ◌∙◌, arith}
+use Rattle.re_terms.specs.Listed.{Listed}
 use Rattle.re_terms.specs.declared.program.Decl.{Decl}
-use Rattle.re_terms.specs.declared.program.Program.{Program}
 use Rattle.re_tool.specs.Tokens.{Mark}
-use Rattle.re_tool.specs.Grammar.{semicolon, is_sign, split, declared_next, declarations, program_with, program_from}
-use Rattle.re_tool.specs.Parts.{part_at, next_part}
+use Rattle.re_tool.specs.Grammar.{semicolon, split, declared_next, declarations, program_with, program_from}
+use Rattle.re_tool.specs.Parts.{next_part}
 use Rattle.re_tool.proofs.Splitting.{split-next, split_by}
 
 from_next : (earlier next : List Decl) (statement : List Mark) (statements : List (List Mark)) (rest : List Mark) → declared_next earlier statement ≡ Some next
@@ -31,8 +29,10 @@ declares_first before marks part left e k = record { so_far = ap (program_from b
 
 pub declares_more : (before : List Decl) (marks : List Mark) (earlier next : List Decl) (statement rest part : List Mark) (left : Option (List Mark)) → Declares before marks earlier statement (Some rest)
     → declared_next earlier statement ≡ Some next → part ≡ (next_part semicolon rest).0 → left ≡ (next_part semicolon rest).1 → Declares before marks next part left
-declares_more before marks earlier next statement rest part left d n e k = record { so_far =
-    ap (program_from next) (pairs semicolon rest part left e k) ∙ from_next earlier next statement (split semicolon rest).0 (split semicolon rest).1 n ∙ d.so_far }
+declares_more before marks earlier next statement rest part left d n e k = record {
+  so_far =
+      ap (program_from next) (pairs semicolon rest part left e k) ∙ from_next earlier next statement (split semicolon rest).0 (split semicolon rest).1 n ∙ d.so_far;
+}
 
 pub declares_none : (before : List Decl) (marks : List Mark) (earlier : List Decl) (statement rest : List Mark) → Declares before marks earlier statement (Some rest)
     → declared_next earlier statement ≡ None → program_from before (split semicolon marks) ≡ None

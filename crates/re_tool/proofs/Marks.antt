@@ -1,10 +1,10 @@
 -- How the tokens of a text follow one another.
-use Rattle.std.proofs.Common.{ℕ, zero, suc, ◌≡◌, ◌+◌, ◌<◌, ◌≤◌, ◌==◌, Bool, true, false, cond, not, List, [], ◌∷◌, ◌++◌, length, take, drop, map, Option, Some, None, option_map, IfSome, refl, sym, ap, subst, ◌∙◌, arith, rules, append_assoc, length-drop}
+use Rattle.std.proofs.Common.{ℕ, zero, suc, ◌≡◌, ◌+◌, ◌<◌, ◌≤◌, ◌==◌, Bool, true, false, cond, not, List, [], ◌∷◌, ◌++◌, length, take, drop, Option, Some, None, option_map, IfSome, refl, sym, ap, subst, ◌∙◌, arith, rules, append_assoc, length-drop}
 use Rattle.std.specs.List.{prefix_len, take_while, position}
 use Rattle.std.specs.Str.{bytes_eq}
 use Rattle.std.proofs.lemmas.List.{map_push, append-nil}
 use Rattle.re_tool.specs.declared.tokens.Mark.{Mark as SourceMark}
-use Rattle.re_tool.specs.Tokens.{Mark, is_word_byte, behind_blanks, skipped, short_sign, sign_or_short, signs, Sign, word_mark, first_mark, mark_then, marks_step, marks_within, marks_of}
+use Rattle.re_tool.specs.Tokens.{Mark, is_word_byte, behind_blanks, skipped, sign_or_short, signs, Sign, word_mark, first_mark, mark_then, marks_step, marks_within, marks_of}
 use Rattle.re_tool.specs.Scanning.{plain_mark, plain_marks}
 
 abbrev IsShorter : ℕ → Option (Mark × List ℕ) → Type 0
@@ -97,13 +97,15 @@ marks_step-none [] h e = absurd (omega arith)
 marks_step-none (b ∷ rest) h e = ap (λ o. mark_then o marks_of) (sym e)
 
 pub reads_more : (text : List ℕ) (found : List SourceMark) (mark : SourceMark) (rest behind next : List ℕ) → Reads text found rest → 0 < length rest → Some (plain_mark mark, behind) ≡ first_mark rest → next ≡ skipped behind → Reads text (found ++ mark ∷ []) next
-reads_more text found mark rest behind next r h e k = record { so_far =
-    ap (λ marks. read_before marks (marks_step next marks_of)) (map_push plain_mark found mark)
-    ∙ read_before-push (plain_marks found) (plain_mark mark) (marks_step next marks_of)
-    ∙ ap (λ t. read_before (plain_marks found) (option_map (λ marks. plain_mark mark ∷ marks) (marks_step t marks_of))) k
-    ∙ ap (λ o. read_before (plain_marks found) (option_map (λ marks. plain_mark mark ∷ marks) o)) (sym (marks_of-skipped behind))
-    ∙ ap (read_before (plain_marks found)) (sym (marks_step-some rest _ h e))
-    ∙ r.so_far }
+reads_more text found mark rest behind next r h e k = record {
+  so_far =
+      ap (λ marks. read_before marks (marks_step next marks_of)) (map_push plain_mark found mark)
+      ∙ read_before-push (plain_marks found) (plain_mark mark) (marks_step next marks_of)
+      ∙ ap (λ t. read_before (plain_marks found) (option_map (λ marks. plain_mark mark ∷ marks) (marks_step t marks_of))) k
+      ∙ ap (λ o. read_before (plain_marks found) (option_map (λ marks. plain_mark mark ∷ marks) o)) (sym (marks_of-skipped behind))
+      ∙ ap (read_before (plain_marks found)) (sym (marks_step-some rest _ h e))
+      ∙ r.so_far;
+}
 
 pub reads_none : (text : List ℕ) (found : List SourceMark) (rest : List ℕ) → Reads text found rest → 0 < length rest → None ≡ first_mark rest → marks_of text ≡ None
 reads_none text found rest r h e = sym r.so_far ∙ ap (read_before (plain_marks found)) (marks_step-none rest h e)

@@ -1,5 +1,5 @@
 -- What the ids of lines name.
-use Rattle.std.proofs.Common.{ℕ, ℤ, ◌≡◌, ◌<◌, Bool, true, false, cond, List, [], ◌∷◌, length, codes, Option, Some, None, IfSome, nat_lt, unwrap_or, refl, sym, subst, arith, rules}
+use Rattle.std.proofs.Common.{ℕ, ℤ, ◌≡◌, ◌<◌, Bool, true, false, cond, List, [], ◌∷◌, length, codes, Option, Some, None, IfSome, nat_lt, unwrap_or, refl, subst, arith, rules}
 use Rattle.std.specs.List.{slice_get}
 use Rattle.std.proofs.lemmas.Grind.{common_steps}
 use Rattle.re_terms.specs.declared.program.Body.{Body}
@@ -40,12 +40,12 @@ NamesRight decls Bad = Unit {0}
 turn_right : (decls : List Decl) (marks : List Mark) → IfSome (turn_of decls marks) (NamesRight decls)
 turn_right decls marks =
     if_any (named marks) _ _ (λ (device : List ℕ × List Mark). if_any (placed is_device decls device.0) _ _ (λ only. if_any (named device.1) _ _ (λ (name : List ℕ × List Mark).
-        if_then (placed is_var decls name.0) _ _ _ (placed_stands is_var decls name.0) (λ id at. if_any (behind (is_sign 2) name.1) _ _ (λ literal. if_any (literal_of literal) _ _ (λ number. at))))))
+    if_then (placed is_var decls name.0) _ _ _ (placed_stands is_var decls name.0) (λ id at. if_any (behind (is_sign 2) name.1) _ _ (λ literal. if_any (literal_of literal) _ _ (λ number. at))))))
 
 get_right : (decls : List Decl) (marks : List Mark) → IfSome (get_of decls marks) (NamesRight decls)
 get_right decls marks =
     if_any (named marks) _ _ (λ (device : List ℕ × List Mark). if_any (placed is_device decls device.0) _ _ (λ only. if_any (named device.1) _ _ (λ (name : List ℕ × List Mark).
-        if_then (placed is_value decls name.0) _ _ _ (placed_stands is_value decls name.0) (λ id at. if_true (is_none_left name.1) (Get id) (NamesRight decls) (λ e. at)))))
+    if_then (placed is_value decls name.0) _ _ _ (placed_stands is_value decls name.0) (λ id at. if_true (is_none_left name.1) (Get id) (NamesRight decls) (λ e. at)))))
 
 command_right : (decls : List Decl) (marks : List Mark) → IfSome (command_of decls marks) (NamesRight decls)
 command_right decls [] = tt

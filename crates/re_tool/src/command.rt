@@ -129,7 +129,13 @@ mod tests {
             (b" # turn a x = 1", Line::Blank),
             (b"turn a x = 5", Line::Turn { id: 1, number: 5 }),
             (b"turn a x=- 5 # five", Line::Turn { id: 1, number: -5 }),
-            (b"turn a x = -9223372036854775808", Line::Turn { id: 1, number: i64::MIN }),
+            (
+                b"turn a x = -9223372036854775808",
+                Line::Turn {
+                    id: 1,
+                    number: i64::MIN,
+                },
+            ),
             (b"turn a x = 9223372036854775808", Line::Bad),
             (b"turn a s = 1", Line::Bad),
             (b"turn b x = 1", Line::Bad),

@@ -41,7 +41,11 @@ pub fn device_place(decls: &Seq<Decl>, names: &Names<'_>, name: &[u8]) -> Option
 {
     let id = names.place(name)?;
     let decl = decls.get(id)?;
-    if is_device(&decl.body) { Some(id) } else { None }
+    if is_device(&decl.body) {
+        Some(id)
+    } else {
+        None
+    }
 }
 
 /// The place of the var with this name.

@@ -7,14 +7,21 @@ ghost use Rattle.re_tool.specs.Parts.{next_part, plain_rest, plain_named};
 use crate::tokens::Mark;
 
 pub const SEMICOLON: usize = 0;
+
 pub const COLON: usize = 1;
+
 pub const EQUALS: usize = 2;
+
 pub const PLUS: usize = 6;
+
 pub const MINUS: usize = 7;
 
 pub const DEVICE: usize = 0;
+
 pub const VAR: usize = 2;
+
 pub const SIGNAL: usize = 4;
+
 pub const INT: usize = 30;
 
 /// Whether a token is the sign of this place.
@@ -44,7 +51,11 @@ pub fn behind_sign<'m, 'a>(marks: &'m [Mark<'a>], place: usize) -> Option<&'m [M
     let [first, rest @ ..] = marks else {
         return None;
     };
-    if is_sign(*first, place) { Some(rest) } else { None }
+    if is_sign(*first, place) {
+        Some(rest)
+    } else {
+        None
+    }
 }
 
 /// What stands behind the reserved word of this place, if the tokens begin with it.
@@ -54,7 +65,11 @@ pub fn behind_reserved<'m, 'a>(marks: &'m [Mark<'a>], place: usize) -> Option<&'
     let [first, rest @ ..] = marks else {
         return None;
     };
-    if is_reserved(*first, place) { Some(rest) } else { None }
+    if is_reserved(*first, place) {
+        Some(rest)
+    } else {
+        None
+    }
 }
 
 /// The name that the tokens begin with, and what stands behind it.
@@ -80,7 +95,10 @@ fn sign_at(marks: &[Mark<'_>], sign: usize) -> Option<usize>
 }
 
 /// The tokens before the first sign of this place, and those behind it where there is one.
-pub fn next_part<'m, 'a>(marks: &'m [Mark<'a>], sign: usize) -> (&'m [Mark<'a>], Option<&'m [Mark<'a>]>)
+pub fn next_part<'m, 'a>(
+    marks: &'m [Mark<'a>],
+    sign: usize,
+) -> (&'m [Mark<'a>], Option<&'m [Mark<'a>]>)
     ensures part { plain_marks result.0.now ≡ (next_part sign (plain_marks marks.now)).0 }
     ensures rest { option_map plain_rest result.1 ≡ (next_part sign (plain_marks marks.now)).1 }
 {

@@ -9,8 +9,10 @@ ghost use Rattle.re_tool.specs.Built.{IsBuilt};
 use crate::faults::ProgramFault;
 use crate::look_up::{is_device, is_var};
 use crate::names::Names;
-use crate::patterns::{COLON, DEVICE, EQUALS, INT, SEMICOLON, SIGNAL, VAR};
-use crate::patterns::{behind_reserved, behind_sign, is_reserved, literal, named, next_part};
+use crate::patterns::{
+    COLON, DEVICE, EQUALS, INT, SEMICOLON, SIGNAL, VAR, behind_reserved, behind_sign, is_reserved,
+    literal, named, next_part,
+};
 use crate::sums::read_sum;
 use crate::tokens::{Mark, marks};
 use re_terms::{Body, Decl, Kind, Program, Seq, Text, Word};
@@ -18,7 +20,9 @@ use std::alloc::{AllocError, Global};
 
 /// How many bytes a program part has at most.
 const MAX_TEXT: usize = 65_536;
+
 const MAX_DECLARATIONS: usize = 512;
+
 const MAX_VARS: usize = 256;
 
 /// The declarations read so far, with their names and the count of vars.
@@ -236,8 +240,14 @@ mod tests {
             (b"device a;", 1),
             (b"device a; var x: int = - 5; # five\nvar y: int = -0;", 3),
             (b"device a; var x: int = -9223372036854775808;", 2),
-            (b"device a; var x: int = 9223372036854775807; signal s = x + 1 + -2;", 3),
-            (b"device turn; var get: int = 0; signal s = get; signal t = s + s;", 4),
+            (
+                b"device a; var x: int = 9223372036854775807; signal s = x + 1 + -2;",
+                3,
+            ),
+            (
+                b"device turn; var get: int = 0; signal s = get; signal t = s + s;",
+                4,
+            ),
         ];
         for (text, wanted) in cases {
             assert_eq!(rt; count(alloc, text), Ok(wanted));
@@ -285,7 +295,10 @@ mod tests {
     fn stops_at_the_65th_term(rt: HostRuntime) -> Result<(), Fail> {
         let alloc = rt.alloc();
         assert_eq!(rt; count(alloc, &sum_of_ones(alloc, 64)?), Ok(2));
-        assert_eq!(rt; count(alloc, &sum_of_ones(alloc, 65)?), Err(ProgramFault::NotBuilt));
+        assert_eq!(rt;
+            count(alloc, &sum_of_ones(alloc, 65)?),
+            Err(ProgramFault::NotBuilt)
+        );
         let longest = sum_of_ones(alloc, 32_759)?;
         assert_eq!(rt; longest.len(), 65_536);
         assert_eq!(rt; count(alloc, &longest), Err(ProgramFault::NotBuilt));

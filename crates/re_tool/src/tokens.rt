@@ -30,10 +30,39 @@ pub enum MarksFault {
 }
 
 const RESERVED_WORDS: [&[u8]; 33] = [
-    b"device", b"symbol", b"var", b"event", b"signal", b"fold", b"counter", b"set", b"register",
-    b"changed", b"map", b"filter", b"either", b"on", b"do", b"in", b"arg", b"self", b"if", b"then",
-    b"else", b"and", b"or", b"not", b"recover", b"fault", b"size", b"has", b"true", b"false",
-    b"int", b"bool", b"sym",
+    b"device",
+    b"symbol",
+    b"var",
+    b"event",
+    b"signal",
+    b"fold",
+    b"counter",
+    b"set",
+    b"register",
+    b"changed",
+    b"map",
+    b"filter",
+    b"either",
+    b"on",
+    b"do",
+    b"in",
+    b"arg",
+    b"self",
+    b"if",
+    b"then",
+    b"else",
+    b"and",
+    b"or",
+    b"not",
+    b"recover",
+    b"fault",
+    b"size",
+    b"has",
+    b"true",
+    b"false",
+    b"int",
+    b"bool",
+    b"sym",
 ];
 
 const SIGNS: [&[u8]; 17] = [
@@ -264,7 +293,8 @@ mod tests {
     #[test]
     fn has_the_tables_in_order(rt: HostRuntime) -> Result<(), Fail> {
         let alloc = rt.alloc();
-        let words = b"device symbol var event signal fold counter set register changed map filter either on do in arg self if then else and or not recover fault size has true false int bool sym";
+        let words =
+            b"device symbol var event signal fold counter set register changed map filter either on do in arg self if then else and or not recover fault size has true false int bool sym";
         let mut place = 0usize;
         for mark in &marks(alloc, words)? {
             assert!(rt; matches!(mark, Mark::Reserved(found) if *found == place));

@@ -1,10 +1,10 @@
-use Rattle.std.proofs.Common.{◌≡◌, ◌<◌, ◌++◌, ◌∷◌, [], length, arith, sym, ap, ◌∙◌, rules}
-use Rattle.re_tool.proofs.Marks.{Reads, reads_first, reads_more, left_shorter}
+use Rattle.std.proofs.Common.{◌≡◌, ◌<◌, ◌++◌, ◌∷◌, [], length, arith}
+use Rattle.re_tool.proofs.Marks.{reads_first, reads_more, left_shorter}
 use Rattle.std.proofs.lemmas.Grind.{common_steps}
 use Rattle.re_tool.proofs.tokens.marks.Goals as goal
 
 pub loop-rest-init : goal.loop-rest-init
-loop-rest-init c = 
+loop-rest-init c =
     rw c.new-found.ensures.items (reads_first _ _ c.skip-rest.ensures)
 
 pub loop-rest-smaller : goal.loop-rest-smaller

@@ -1,7 +1,7 @@
-use Rattle.std.proofs.Common.{◌≡◌, ◌<◌, length, sym, ap, ◌∙◌, rules, arith}
+use Rattle.std.proofs.Common.{◌≡◌, ◌<◌, length, arith}
 use Rattle.std.proofs.lemmas.List.{length-map}
 use Rattle.std.proofs.lemmas.Grind.{common_steps}
-use Rattle.re_tool.specs.Scanning.{plain_mark, plain_marks}
+use Rattle.re_tool.specs.Scanning.{plain_marks}
 use Rattle.re_tool.proofs.Declaring.{declares_first, declares_more, declares_none, declares_unended, declares_all}
 use Rattle.re_tool.proofs.Splitting.{left_length-next}
 use Rattle.re_tool.proofs.reading.Table.declare_all.Goals as goal
@@ -31,8 +31,8 @@ pub returns-in_err-declare-clause-not_built : goal.returns-in_err-declare-clause
 returns-in_err-declare-clause-not_built c =
     let d = rw c.in-Some.is at c.loop-left.invariant.read in
     λ e.
-        let same = rw e at c.from_residual.ensures in
-        declares_none _ _ _ _ (plain_marks c.in-Some.rest.now) d (c.in_err-declare.ensures.not_built (cc))
+    let same = rw e at c.from_residual.ensures in
+    declares_none _ _ _ _ (plain_marks c.in-Some.rest.now) d (c.in_err-declare.ensures.not_built (cc))
 
 pub returns-then-not-is_empty-clause-not_built : goal.returns-then-not-is_empty-clause-not_built
 returns-then-not-is_empty-clause-not_built c =
