@@ -1,5 +1,5 @@
 -- What the programs that are read have.
-use Rattle.std.proofs.Common.{ℕ, zero, suc, ℤ, ◌⊎◌, inl, inr, ◌≡◌, ◌+◌, ◌<◌, ◌≤◌, ◌&&◌, ◌||◌, ◌==◌, Bool, true, false, cond, not, List, [], ◌∷◌, ◌++◌, length, map, Option, Some, None, option_map, option_and_then, is_some, IfSome, nat_lt, nat_le, refl, sym, ap, subst, append_assoc, ◌∙◌, arith, rules}
+use Rattle.std.proofs.Common.{ℕ, zero, suc, ℤ, ◌⊎◌, inl, inr, ◌≡◌, ◌<◌, ◌≤◌, ◌&&◌, ◌==◌, Bool, true, false, cond, not, List, [], ◌∷◌, ◌++◌, length, Option, Some, None, option_map, option_and_then, is_some, IfSome, nat_lt, nat_le, refl, sym, ap, subst, append_assoc, ◌∙◌, arith, rules}
 use Rattle.std.specs.List.{slice_get}
 use Rattle.std.proofs.lemmas.List.{append-nil, length_push, map_push}
 use Rattle.std.proofs.lemmas.Grind.{common_steps}
@@ -15,7 +15,7 @@ use Rattle.re_terms.specs.declared.program.Body.TheVariants as body
 use Rattle.re_terms.specs.declared.program.Decl.{Decl}
 use Rattle.re_terms.specs.declared.program.Program.{Program}
 use Rattle.re_tool.specs.Tokens.{Mark, Number, Name, Reserved, Sign, marks_of}
-use Rattle.re_tool.specs.Grammar.{only_if, is_sign, is_reserved, behind, named, is_none_left, is_device, is_var, is_value, names_in, place_of, placed, literal_of, term_of, added, sum_behind, sum_of_terms, sum_of, parts_of, plus, var_of, signal_of, body_of, statement_of, has_room, may_follow, declared_next, declarations, program_with, program_from, split, program_of}
+use Rattle.re_tool.specs.Grammar.{only_if, is_sign, is_reserved, behind, named, is_none_left, is_device, is_value, names_in, place_of, placed, literal_of, term_of, added, sum_behind, sum_of_terms, sum_of, parts_of, plus, var_of, signal_of, body_of, statement_of, may_follow, declared_next, declarations, program_with, program_from, split, program_of}
 use Rattle.re_tool.specs.Built.{is_sum_below, sum_step, are_distinct, IsBuilt}
 
 pub if_then : {A B : Type 0} (o : Option A) (f : A → Option B) (P : A → Type 0) (Q : B → Type 0) → IfSome o P → ((x : A) → P x → IfSome (f x) Q) → IfSome (option_and_then f o) Q

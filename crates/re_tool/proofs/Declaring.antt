@@ -1,12 +1,10 @@
 -- How a program is read declaration by declaration.
-use Rattle.std.proofs.Common.{ℕ, zero, suc, ◌≡◌, ◌+◌, ◌<◌, ◌≤◌, List, [], ◌∷◌, length, Option, Some, None, option_and_then, refl, sym, ap, ◌∙◌, arith}
-use Rattle.std.specs.List.{position}
-use Rattle.re_terms.specs.Listed.{Listed, plain}
+use Rattle.std.proofs.Common.{ℕ, ◌≡◌, ◌<◌, List, [], ◌∷◌, length, Option, Some, None, option_and_then, refl, sym, ap, ◌∙◌, arith}
+use Rattle.re_terms.specs.Listed.{Listed}
 use Rattle.re_terms.specs.declared.program.Decl.{Decl}
-use Rattle.re_terms.specs.declared.program.Program.{Program}
 use Rattle.re_tool.specs.Tokens.{Mark}
-use Rattle.re_tool.specs.Grammar.{semicolon, is_sign, split, declared_next, declarations, program_with, program_from}
-use Rattle.re_tool.specs.Parts.{part_at, next_part}
+use Rattle.re_tool.specs.Grammar.{semicolon, split, declared_next, declarations, program_with, program_from}
+use Rattle.re_tool.specs.Parts.{next_part}
 use Rattle.re_tool.proofs.Splitting.{split-next, split_by}
 
 from_next : (earlier next : List Decl) (statement : List Mark) (statements : List (List Mark)) (rest : List Mark) → declared_next earlier statement ≡ Some next

@@ -1,10 +1,10 @@
 -- How the tokens of a text follow one another.
-use Rattle.std.proofs.Common.{ℕ, zero, suc, ◌≡◌, ◌+◌, ◌<◌, ◌≤◌, ◌==◌, Bool, true, false, cond, not, List, [], ◌∷◌, ◌++◌, length, take, drop, map, Option, Some, None, option_map, IfSome, refl, sym, ap, subst, ◌∙◌, arith, rules, append_assoc, length-drop}
+use Rattle.std.proofs.Common.{ℕ, zero, suc, ◌≡◌, ◌+◌, ◌<◌, ◌≤◌, ◌==◌, Bool, true, false, cond, not, List, [], ◌∷◌, ◌++◌, length, take, drop, Option, Some, None, option_map, IfSome, refl, sym, ap, subst, ◌∙◌, arith, rules, append_assoc, length-drop}
 use Rattle.std.specs.List.{prefix_len, take_while, position}
 use Rattle.std.specs.Str.{bytes_eq}
 use Rattle.std.proofs.lemmas.List.{map_push, append-nil}
 use Rattle.re_tool.specs.declared.tokens.Mark.{Mark as SourceMark}
-use Rattle.re_tool.specs.Tokens.{Mark, is_word_byte, behind_blanks, skipped, short_sign, sign_or_short, signs, Sign, word_mark, first_mark, mark_then, marks_step, marks_within, marks_of}
+use Rattle.re_tool.specs.Tokens.{Mark, is_word_byte, behind_blanks, skipped, sign_or_short, signs, Sign, word_mark, first_mark, mark_then, marks_step, marks_within, marks_of}
 use Rattle.re_tool.specs.Scanning.{plain_mark, plain_marks}
 
 abbrev IsShorter : ℕ → Option (Mark × List ℕ) → Type 0

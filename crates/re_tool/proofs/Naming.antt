@@ -1,5 +1,5 @@
 -- What the ids of lines name.
-use Rattle.std.proofs.Common.{ℕ, ℤ, ◌≡◌, ◌<◌, Bool, true, false, cond, List, [], ◌∷◌, length, codes, Option, Some, None, IfSome, nat_lt, unwrap_or, refl, sym, subst, arith, rules}
+use Rattle.std.proofs.Common.{ℕ, ℤ, ◌≡◌, ◌<◌, Bool, true, false, cond, List, [], ◌∷◌, length, codes, Option, Some, None, IfSome, nat_lt, unwrap_or, refl, subst, arith, rules}
 use Rattle.std.specs.List.{slice_get}
 use Rattle.std.proofs.lemmas.Grind.{common_steps}
 use Rattle.re_terms.specs.declared.program.Body.{Body}

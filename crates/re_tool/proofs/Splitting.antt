@@ -1,5 +1,5 @@
 -- How a list splits at its first sign.
-use Rattle.std.proofs.Common.{ℕ, zero, suc, ◌≡◌, ◌+◌, ◌<◌, ◌≤◌, Bool, true, false, cond, not, List, [], ◌∷◌, ◌++◌, length, take, drop, Option, Some, None, option_map, IfSome, nat_lt, refl, sym, ap, subst, ◌∙◌, arith, rules, length-drop}
+use Rattle.std.proofs.Common.{ℕ, suc, ◌≡◌, ◌+◌, ◌<◌, Bool, true, false, cond, not, List, [], ◌∷◌, ◌++◌, length, Option, Some, None, option_map, nat_lt, refl, sym, ap, ◌∙◌, arith, length-drop}
 use Rattle.std.specs.List.{position, position_or_len}
 use Rattle.std.proofs.lemmas.Grind.{common_steps}
 use Rattle.re_tool.specs.Tokens.{Mark}

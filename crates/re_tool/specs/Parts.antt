@@ -1,5 +1,5 @@
 -- The marks before a sign and those behind it.
-use Rattle.std.specs.Prelude.{ℕ, suc, List, [], ◌∷◌, take, drop, position, Option, Some, None}
+use Rattle.std.specs.Prelude.{ℕ, suc, List, take, drop, position, Option, Some, None}
 use Rattle.std.specs.Borrow.{Bor}
 use Rattle.re_tool.specs.declared.tokens.Mark.{Mark as SourceMark}
 use Rattle.re_tool.specs.Tokens.{Mark}

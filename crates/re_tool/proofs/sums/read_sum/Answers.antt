@@ -1,9 +1,7 @@
-use Rattle.std.proofs.Common.{◌≡◌, ◌+◌, ◌<◌, ◌≤◌, Some, None, Option, Bor, List, sym, ap, ◌∙◌, subst, arith, rules}
-use Rattle.std.specs.Option.{option_map}
+use Rattle.std.proofs.Common.{◌<◌, sym, ◌∙◌, arith}
 use Rattle.re_tool.specs.Scanning.{plain_marks}
-use Rattle.re_tool.specs.Parts.{plain_rest}
-use Rattle.re_tool.proofs.Adding.{Adds, adds_first, adds_no_first, adds_more, adds_no_more, adds_too_many, adds_all}
-use Rattle.re_tool.proofs.Splitting.{left_length, left_length-next}
+use Rattle.re_tool.proofs.Adding.{adds_first, adds_no_first, adds_more, adds_no_more, adds_too_many, adds_all}
+use Rattle.re_tool.proofs.Splitting.{left_length-next}
 use Rattle.re_tool.proofs.sums.read_sum.Goals as goal
 
 pub returns-in_default-clause-not_built : goal.returns-in_default-clause-not_built

@@ -1,5 +1,5 @@
-use Rattle.std.proofs.Common.{◌≡◌, ◌<◌, ◌++◌, ◌∷◌, [], length, arith, sym, ap, ◌∙◌, rules}
-use Rattle.re_tool.proofs.Marks.{Reads, reads_first, reads_more, left_shorter}
+use Rattle.std.proofs.Common.{◌≡◌, ◌<◌, ◌++◌, ◌∷◌, [], length, arith}
+use Rattle.re_tool.proofs.Marks.{reads_first, reads_more, left_shorter}
 use Rattle.std.proofs.lemmas.Grind.{common_steps}
 use Rattle.re_tool.proofs.tokens.marks.Goals as goal
 

@@ -1,7 +1,7 @@
-use Rattle.std.proofs.Common.{◌≡◌, ◌<◌, length, sym, ap, ◌∙◌, rules, arith}
+use Rattle.std.proofs.Common.{◌≡◌, ◌<◌, length, arith}
 use Rattle.std.proofs.lemmas.List.{length-map}
 use Rattle.std.proofs.lemmas.Grind.{common_steps}
-use Rattle.re_tool.specs.Scanning.{plain_mark, plain_marks}
+use Rattle.re_tool.specs.Scanning.{plain_marks}
 use Rattle.re_tool.proofs.Declaring.{declares_first, declares_more, declares_none, declares_unended, declares_all}
 use Rattle.re_tool.proofs.Splitting.{left_length-next}
 use Rattle.re_tool.proofs.reading.Table.declare_all.Goals as goal
