@@ -3,6 +3,7 @@ pub mod Orders
 pub mod Programs
 pub mod Parts
 pub mod Endings
+pub mod LastWords
 pub mod LineKinds
 pub mod PassedLines
 pub mod Serves
