@@ -2,6 +2,7 @@ pub mod Clipping
 pub mod Orders
 pub mod Programs
 pub mod Parts
+pub mod Refusals
 pub mod Endings
 pub mod LastWords
 pub mod LineKinds
