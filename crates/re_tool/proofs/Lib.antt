@@ -3,7 +3,9 @@ pub mod Clipping
 pub mod Orders
 pub mod Programs
 pub mod Parts
+pub mod Refusals
 pub mod Endings
+pub mod LastWords
 pub mod LineKinds
 pub mod PassedLines
 pub mod Serves

@@ -16,6 +16,7 @@ pub mod Reads
 pub mod Scanning
 pub mod Serving
 pub mod Session
+pub mod Settings
 pub mod Status
 pub mod Texts
 pub mod Table

@@ -7,6 +7,7 @@ mod command;
 mod device;
 mod evaluate;
 mod faults;
+pub mod laws;
 mod line;
 mod look_up;
 mod names;
