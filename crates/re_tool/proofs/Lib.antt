@@ -12,6 +12,7 @@ pub mod Serves
 pub mod Sessions
 pub mod Splits
 pub mod Starting
+pub mod VarWords
 pub mod Bodies
 pub mod Devices
 pub mod Evaluated
