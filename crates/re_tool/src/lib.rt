@@ -19,6 +19,8 @@ mod reading;
 mod running;
 mod status;
 mod sums;
+#[cfg(test)]
+mod tests;
 mod tokens;
 mod top;
 mod words;
