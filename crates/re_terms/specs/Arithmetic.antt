@@ -1,4 +1,5 @@
 -- What an operator gives, over exact whole numbers.
+-- Read against: 10 / 0 is fault 2; -9223372036854775808 / -1 is fault 1, and -9223372036854775808 % -1 is 0.
 use Rattle.std.specs.Prelude.{ℤ, pos, negsuc, ◌+ℤ◌, ◌-ℤ◌, ◌*ℤ◌, int_le, int_lt, int_div, Bool, true, false, not, ◌&&◌, ◌==◌, if◌then◌else◌}
 use Rattle.std.specs.Ordering.{int_eq}
 use Rattle.re_terms.specs.declared.word.Word.{Word}

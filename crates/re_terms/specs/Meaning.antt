@@ -1,4 +1,5 @@
 -- The word of an expression.
+-- Read against: with x 0, `10 / x` is fault 2 and `recover(10 / x, 7)` is 7; with temp 200, `if temp > 300 then 2 else 1` is 1.
 use Rattle.std.specs.Prelude.{ℕ, pos, Bool, Option, unwrap_or}
 use Rattle.re_terms.specs.declared.word.Word.{Word}
 use Rattle.re_terms.specs.declared.word.Word.TheVariants as word

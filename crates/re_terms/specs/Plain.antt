@@ -1,4 +1,5 @@
 -- Plain states, and the entries of a run.
+-- Read against: `var x: int = 2; signal s = x + 3;` begins with the one word 2, and has 5 after a turn that sets x to 5.
 use Rattle.std.specs.Prelude.{ℕ, suc, ◌==◌, List, [], ◌∷◌, if◌then◌else◌}
 use Rattle.re_terms.specs.declared.word.Word.{Word}
 use Rattle.re_terms.specs.declared.program.Body.{Body}

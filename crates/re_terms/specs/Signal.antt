@@ -1,4 +1,5 @@
 -- The words of vars and signals.
+-- Read against: `var x: int = 2; signal s = x + 3;` has s 5 at the start, and 8 where x is 5.
 use Rattle.std.specs.Prelude.{ℕ, zero, suc, pos, ◌==◌, Bool, true, false, List, Option, None, Some, if◌then◌else◌, take, length, slice_get, slice_index_or, count_by}
 use Rattle.re_terms.specs.declared.word.Word.{Word}
 use Rattle.re_terms.specs.declared.word.Word.TheVariants as word

@@ -1,4 +1,5 @@
 -- One step of a session's world.
+-- Read against: on `var x: int = 2; signal s = x + 3;` the commands get s, turn x = 5, get s are answered 5, ok 1, 8.
 use Rattle.std.specs.Prelude.{ℕ, ◌+◌, List, [], ◌∷◌, ◌++◌, length}
 use Rattle.re_terms.specs.declared.word.Word.{Word}
 use Rattle.re_terms.specs.declared.program.Program.{Program}

@@ -1,10 +1,10 @@
 -- What a status says of what is seen outside.
-use Rattle.std.proofs.Common.{arith, ◌≡◌, ◌≤◌, ◌<◌, ◌+◌, ◌++◌, [], ℕ, List, length, take, sym, ◌∙◌, ap, subst, refl, Bool, true, false, Option, Some, None, ◌⊎◌, inl, inr, length-append}
-use Rattle.std.specs.Prelude.{nat_lt, option_map, if◌then◌else◌, ◌||◌}
+use Rattle.std.proofs.Common.{arith, ◌≡◌, ◌≤◌, ◌<◌, ◌++◌, [], ℕ, List, length, take, sym, ◌∙◌, ap, subst, refl, Bool, true, false, Option, Some, None, ◌⊎◌, inl, inr, length-append}
+use Rattle.std.specs.Prelude.{if◌then◌else◌, ◌||◌}
 use Rattle.std.specs.List.{flat_map}
 use Rattle.std.proofs.lemmas.Bool.{lt-ltb, ltb-true}
 use Rattle.std.proofs.lemmas.List.{append_cancel_right, take_all}
-use Rattle.re_outside.specs.Outside.{Seen, Counts, Does, Breaks, IsAtEnd, none}
+use Rattle.re_outside.specs.Outside.{Seen, Counts, Does, IsAtEnd, none}
 use Rattle.re_terms.specs.declared.program.Program.{Program}
 use Rattle.re_tool.specs.declared.status.Status.{Status}
 use Rattle.re_tool.specs.declared.status.Status.TheVariants as status
@@ -12,7 +12,7 @@ use Rattle.re_tool.specs.Answers.{Outcomes, answers, answers_by, status_of, stat
 use Rattle.re_tool.specs.Causes.{IsUnlessEnded, InputCause, OutputCause, EndCause, TooMuch, TooLongCause, IsRefusedPart, ProgramCause}
 use Rattle.re_tool.specs.Grammar.{program_of}
 use Rattle.re_tool.specs.Lines.{split, ended}
-use Rattle.re_tool.specs.Part.{Part, divided, part_of, part_in, part_by, is_over}
+use Rattle.re_tool.specs.Part.{Part, divided, part_of, part_by, is_over}
 use Rattle.re_tool.specs.Reads.{limit}
 use Rattle.re_tool.specs.Session.{Runs, Finishes, Refuses, one_if, is_output}
 

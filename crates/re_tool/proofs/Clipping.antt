@@ -1,11 +1,10 @@
 -- What is kept of a line, byte by byte.
 use Rattle.std.proofs.Common.{arith, ◌≡◌, ◌≤◌, ◌<◌, ◌-◌, ◌+◌, ◌++◌, ◌∷◌, [], ℕ, List, length, take, min, sym, ◌∙◌, ap, refl, zero, suc, Bool, true, false, ◌⊎◌, inl, inr, length-take}
-use Rattle.std.specs.Prelude.{nat_lt, ◌==◌, slice_index_or, if◌then◌else◌, codes}
-use Rattle.std.proofs.lemmas.Bool.{lt-ltb, cases_lt}
-use Rattle.std.proofs.lemmas.List.{take-append-le, take_all}
+use Rattle.std.specs.Prelude.{◌==◌, slice_index_or, if◌then◌else◌, codes}
+use Rattle.std.proofs.lemmas.Bool.{cases_lt}
+use Rattle.std.proofs.lemmas.List.{take_all}
 use Rattle.std.proofs.Math.Seq.{take-append-add}
 use Rattle.std.proofs.lemmas.Slice.Eq.{bytes_eq-Decides}
-use Rattle.std.specs.Str.{bytes_eq}
 use Rattle.re_tool.specs.Part.{is_separator}
 use Rattle.re_tool.specs.Lines.{without_return}
 

@@ -1,27 +1,27 @@
 -- How a session ends.
-use Rattle.std.proofs.Common.{arith, ◌≡◌, ◌≤◌, ◌<◌, ◌+◌, ◌-◌, ◌++◌, ◌∷◌, [], ℕ, List, length, take, sym, ◌∙◌, ap, subst, refl, Bool, true, false, Option, Some, None, append_assoc, add-zero, length-append, ◌⊎◌, inl, inr}
-use Rattle.std.specs.Prelude.{map, nat_lt, if◌then◌else◌, option_map}
+use Rattle.std.proofs.Common.{arith, ◌≡◌, ◌≤◌, ◌<◌, ◌+◌, ◌-◌, ◌++◌, ◌∷◌, [], ℕ, List, length, take, sym, ◌∙◌, ap, subst, refl, Bool, true, false, Option, Some, None, append_assoc, length-append, ◌⊎◌, inl, inr}
+use Rattle.std.specs.Prelude.{map, option_map}
 use Rattle.std.specs.List.{flat_map}
 use Rattle.std.proofs.lemmas.Bool.{lt-ltb, le-ltb}
 use Rattle.std.proofs.lemmas.List.{append-nil, take_at, length_push, map-append}
 use Rattle.re_outside.specs.Outside.{Seen, Does, Breaks, IsAtEnd, Faults, none, input_fault, output_fault, plus}
-use Rattle.re_outside.proofs.Does.{does_behind, does_as, at_end}
+use Rattle.re_outside.proofs.Does.{does_behind, at_end}
 use Rattle.re_terms.specs.declared.program.Program.{Program}
-use Rattle.re_terms.specs.World.{World, Outcome, start_world}
+use Rattle.re_terms.specs.World.{Outcome, start_world}
 use Rattle.re_tool.specs.declared.reader.Reader.{Reader}
 use Rattle.re_tool.specs.declared.status.Status.{Status}
 use Rattle.re_tool.specs.declared.status.Status.TheVariants as status
 use Rattle.re_tool.specs.Acts.{Ordered, OrderedIn}
-use Rattle.re_tool.specs.Answers.{Outcomes, Session, texts, lines_after, session_of, session_in, answers, done, close, status_line, status_of, status_in, status_with, ending, session_text, first_lines}
+use Rattle.re_tool.specs.Answers.{Outcomes, Session, texts, lines_after, session_of, session_in, answers, done, close, status_line, status_in, status_with, ending, session_text, first_lines}
 use Rattle.re_tool.specs.Clipped.{Clipped}
 use Rattle.re_tool.specs.Device.{DeviceState}
 use Rattle.re_tool.specs.Grammar.{program_of}
 use Rattle.re_tool.specs.Lines.{split, ended, without_return}
-use Rattle.re_tool.specs.Part.{Part, part_of, is_over, last_lines}
+use Rattle.re_tool.specs.Part.{Part, part_of, last_lines}
 use Rattle.re_tool.specs.Reads.{Reads, Takes, limit}
 use Rattle.re_tool.specs.Serving.{Turns, TurnBreaks}
-use Rattle.re_tool.specs.Session.{Runs, Tells, Unanswered, Finishes, ReadFar, AreComplete, HasSeparator, lines_of, faults_of, is_output}
-use Rattle.re_tool.proofs.Orders.{texts_more, texts_front, order_more, ordered_all, ordered_on, ordered_line, ordered_outcome}
+use Rattle.re_tool.specs.Session.{Runs, Tells, Unanswered, Finishes, ReadFar, HasSeparator, lines_of, faults_of, is_output}
+use Rattle.re_tool.proofs.Orders.{texts_more, order_more, ordered_all, ordered_on, ordered_line, ordered_outcome}
 use Rattle.re_tool.proofs.Parts.{read_more, taken_more, does_more}
 use Rattle.re_tool.proofs.Sessions.{SoFar, Ready, Near, with_lines, says_more, session_at, session_cut, near_ordered, size_more, session_last}
 use Rattle.re_tool.proofs.Splits.{split_lines, split_last}

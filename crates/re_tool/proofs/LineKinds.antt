@@ -1,5 +1,5 @@
 -- What a line is.
-use Rattle.std.proofs.Common.{arith, ◌≡◌, ◌≤◌, ◌<◌, ◌+◌, ◌∷◌, [], ℕ, List, length, sym, ◌∙◌, ap, subst, refl, Bool, true, false, Option, Some, None, ◌⊎◌, inl, inr, zero, suc, ℤ, add-zero, length-append}
+use Rattle.std.proofs.Common.{arith, ◌≡◌, ◌≤◌, ◌+◌, ◌∷◌, [], ℕ, List, length, sym, ◌∙◌, ap, refl, Bool, true, false, Option, Some, None, ◌⊎◌, inl, inr, ℤ, add-zero, length-append}
 use Rattle.std.specs.Prelude.{nat_lt, nat_le, ◌==◌, ◌&&◌, if◌then◌else◌, option_and_then, option_map, unwrap_or, slice_get, codes}
 use Rattle.re_terms.specs.declared.program.Body.{Body}
 use Rattle.re_terms.specs.declared.program.Decl.{Decl}

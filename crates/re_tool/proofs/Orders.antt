@@ -1,5 +1,5 @@
 -- The steps of a session, one line more.
-use Rattle.std.proofs.Common.{◌≡◌, ◌++◌, ◌∷◌, [], ℕ, List, length, sym, ◌∙◌, ap, subst, refl, append_assoc, Bool, true}
+use Rattle.std.proofs.Common.{◌≡◌, ◌++◌, ◌∷◌, [], ℕ, List, length, sym, ◌∙◌, ap, subst, refl, append_assoc}
 use Rattle.std.proofs.lemmas.List.{append-nil}
 use Rattle.re_outside.specs.declared.step.Step.{Step}
 use Rattle.re_outside.specs.Outside.{Seen, Does, Moves, Faults, said, none}

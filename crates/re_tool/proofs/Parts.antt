@@ -1,13 +1,13 @@
 -- The program part, line by line.
-use Rattle.std.proofs.Common.{arith, ◌≡◌, ◌≤◌, ◌<◌, ◌+◌, ◌-◌, ◌++◌, ◌∷◌, [], ℕ, List, length, take, sym, ◌∙◌, ap, subst, refl, append_assoc, Bool, true, false, Option, Some, None, length-append, add-zero}
+use Rattle.std.proofs.Common.{arith, ◌≡◌, ◌≤◌, ◌<◌, ◌+◌, ◌-◌, ◌++◌, ◌∷◌, [], ℕ, List, length, take, sym, ◌∙◌, ap, subst, refl, append_assoc, Bool, true, false, length-append}
 use Rattle.std.specs.List.{flat_map}
 use Rattle.std.proofs.lemmas.List.{append-nil, take_at}
 use Rattle.re_outside.specs.Outside.{Seen, Does, IsAtEnd, Faults, none, input_fault}
-use Rattle.re_outside.proofs.Does.{does-nil, does-trans, does_read, plus-none, none-plus}
+use Rattle.re_outside.proofs.Does.{does-nil, does_read, none-plus}
 use Rattle.re_tool.specs.declared.reader.Reader.{Reader}
 use Rattle.re_tool.specs.Clipped.{Clipped, clipped}
-use Rattle.re_tool.specs.Lines.{split, ended, IsPlain, ArePlain, without_return}
-use Rattle.re_tool.specs.Part.{Part, is_separator, part_of, part_in}
+use Rattle.re_tool.specs.Lines.{split, ended, ArePlain, without_return}
+use Rattle.re_tool.specs.Part.{is_separator, part_of, part_in}
 use Rattle.re_tool.specs.Reads.{Reads, Takes, limit}
 use Rattle.re_tool.specs.PartReading.{kept_text, Divides, ReadsAll, PartFails, PartTooLong, PartStops}
 use Rattle.re_tool.proofs.Clipping.{take-take-append, take-cut_within, separator-kept, separator-kept_last}

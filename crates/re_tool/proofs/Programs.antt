@@ -1,6 +1,5 @@
 -- What is kept of lines and of a program part decides what they are.
-use Rattle.std.proofs.Common.{arith, ◌≡◌, ◌≤◌, ◌<◌, ◌+◌, ℕ, List, length, take, sym, ◌∙◌, ap, refl, Bool, true, false, ◌⊎◌, inl, inr, Option, None, length-take}
-use Rattle.std.specs.Prelude.{nat_lt, if◌then◌else◌}
+use Rattle.std.proofs.Common.{arith, ◌≡◌, ◌≤◌, ◌<◌, ℕ, List, length, take, sym, ◌∙◌, ap, refl, ◌⊎◌, inl, inr, None, length-take}
 use Rattle.std.proofs.lemmas.Bool.{lt-ltb, cases_lt}
 use Rattle.std.proofs.lemmas.List.{take_all}
 use Rattle.re_terms.specs.declared.program.Program.{Program}

@@ -1,5 +1,5 @@
 -- What a line in hand is, as far as it is kept.
-use Rattle.std.proofs.Common.{arith, ◌≡◌, ◌≤◌, ◌+◌, ◌++◌, ◌∷◌, [], ℕ, List, length, take, sym, ◌∙◌, ap, subst, refl, length-append}
+use Rattle.std.proofs.Common.{arith, ◌≡◌, ◌≤◌, ◌+◌, ◌∷◌, [], ℕ, List, length, take, ◌∙◌, ap, length-append}
 use Rattle.re_outside.specs.Outside.{Seen, none}
 use Rattle.re_terms.specs.declared.program.Program.{Program}
 use Rattle.re_tool.specs.declared.reader.Reader.{Reader}

@@ -1,30 +1,27 @@
 -- A session, line by line.
-use Rattle.std.proofs.Common.{arith, ◌≡◌, ◌≤◌, ◌<◌, ◌+◌, ◌-◌, ◌++◌, ◌∷◌, [], ℕ, List, length, take, sym, ◌∙◌, ap, subst, refl, Bool, true, false, Option, Some, None, append_assoc, add-zero, length-append, ◌⊎◌, inl, inr}
-use Rattle.std.specs.Prelude.{map, nat_lt, if◌then◌else◌}
+use Rattle.std.proofs.Common.{arith, ◌≡◌, ◌≤◌, ◌<◌, ◌+◌, ◌++◌, ◌∷◌, [], ℕ, List, length, take, sym, ◌∙◌, ap, subst, refl, Bool, true, false, Option, Some, append_assoc, length-append, ◌⊎◌, inl, inr}
+use Rattle.std.specs.Prelude.{map}
 use Rattle.std.specs.List.{flat_map}
-use Rattle.std.proofs.lemmas.Bool.{lt-ltb, le-ltb}
-use Rattle.std.proofs.lemmas.List.{append-nil, take_at, take_all, length_push, map-append, length-map}
-use Rattle.re_outside.specs.Outside.{Seen, Does, Breaks, IsAtEnd, Faults, none, input_fault, output_fault, plus}
-use Rattle.re_outside.proofs.Does.{does-nil, does_behind, does_well, does_read, does_as, at_end, plus-none, none-plus}
+use Rattle.std.proofs.lemmas.List.{append-nil, length_push, map-append}
+use Rattle.re_outside.specs.Outside.{Seen, Does, IsAtEnd, Faults, none}
+use Rattle.re_outside.proofs.Does.{does-nil, does_well, does_as}
 use Rattle.re_terms.specs.declared.program.Program.{Program}
-use Rattle.re_terms.specs.World.{World, Outcome, start_world}
+use Rattle.re_terms.specs.World.{Outcome, start_world}
 use Rattle.re_tool.specs.declared.reader.Reader.{Reader}
 use Rattle.re_tool.specs.declared.status.Status.{Status}
-use Rattle.re_tool.specs.declared.status.Status.TheVariants as status
-use Rattle.re_tool.specs.Acts.{Order, Ordered, OrderedIn, ActOn}
-use Rattle.re_tool.specs.Answers.{Outcomes, Session, texts, lines_after, line_text, line_after, session_of, session_in, answers, done, close, status_line, status_of, ending, session_text, first_lines}
-use Rattle.re_tool.specs.Clipped.{Clipped, clipped}
+use Rattle.re_tool.specs.Acts.{Order, Ordered, OrderedIn}
+use Rattle.re_tool.specs.Answers.{Outcomes, Session, texts, lines_after, line_text, line_after, session_of, session_in, answers, done, close}
+use Rattle.re_tool.specs.Clipped.{Clipped}
 use Rattle.re_tool.specs.Commands.{line_of}
 use Rattle.re_tool.specs.Device.{DeviceState, Represents}
 use Rattle.re_tool.specs.Grammar.{program_of}
 use Rattle.re_tool.specs.Lines.{split, ended, IsPlain, ArePlain, without_return}
-use Rattle.re_tool.specs.Part.{Part, divided, part_of, part_in, is_over, last_lines}
-use Rattle.re_tool.specs.Reads.{Reads, Takes, limit}
+use Rattle.re_tool.specs.Part.{Part, divided, part_in, last_lines}
+use Rattle.re_tool.specs.Reads.{Reads, limit}
 use Rattle.re_tool.specs.Serving.{AnswersLine, Turns, TurnBreaks, Starts}
-use Rattle.re_tool.specs.Session.{Runs, Unanswered, Finishes, AreComplete, ReadFar, lines_of, faults_of}
-use Rattle.re_tool.proofs.Orders.{texts_more, texts_front, after-append, order_nil, order_more, ordered_all, ordered_on, ordered_line, ordered_outcome}
+use Rattle.re_tool.specs.Session.{Unanswered, AreComplete, ReadFar, lines_of, faults_of}
+use Rattle.re_tool.proofs.Orders.{texts_more, after-append, order_nil, order_more, ordered_all, ordered_on}
 use Rattle.re_tool.proofs.Parts.{read_more, taken_more, does_more}
-use Rattle.re_tool.proofs.Programs.{line-kept, line-kept_last}
 use Rattle.re_tool.proofs.Splits.{plain_more, split_lines, split_last, flat_more, part_short, part_long}
 
 -- the session of a program and of lines

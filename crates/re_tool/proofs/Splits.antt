@@ -1,11 +1,11 @@
 -- How bytes split into lines.
-use Rattle.std.proofs.Common.{arith, ◌≡◌, ◌≤◌, ◌<◌, ◌+◌, ◌++◌, ◌∷◌, [], ℕ, List, length, take, sym, ◌∙◌, ap, refl, append_assoc, Bool, true, false, Option, Some, None}
-use Rattle.std.specs.Prelude.{map, nat_lt, option_map, ◌||◌, if◌then◌else◌}
+use Rattle.std.proofs.Common.{◌≡◌, ◌≤◌, ◌<◌, ◌++◌, ◌∷◌, [], ℕ, List, length, take, sym, ◌∙◌, ap, refl, append_assoc, Bool, true, false, Some, None}
+use Rattle.std.specs.Prelude.{◌||◌}
 use Rattle.std.specs.List.{flat_map}
 use Rattle.std.proofs.lemmas.Bool.{lt-ltb, le-ltb}
 use Rattle.std.proofs.lemmas.List.{append-nil, take_all}
 use Rattle.re_tool.specs.Lines.{split, ended, IsPlain, ArePlain, without_return}
-use Rattle.re_tool.specs.Part.{Part, divided, is_separator, is_over, part_of, part_in, last_lines}
+use Rattle.re_tool.specs.Part.{divided, is_separator, is_over, part_of, part_in}
 use Rattle.re_tool.specs.Reads.{limit}
 
 pub plain_more : (lines : List (List ℕ)) (line : List ℕ) → ArePlain lines → IsPlain line → ArePlain (lines ++ line ∷ [])

@@ -1,26 +1,25 @@
 -- How a run begins, and how it ends before its session.
-use Rattle.std.proofs.Common.{arith, ◌≡◌, ◌≤◌, ◌<◌, ◌+◌, ◌++◌, ◌∷◌, [], ℕ, List, length, take, sym, ◌∙◌, ap, subst, refl, Bool, true, false, Option, Some, None, ◌⊎◌, inl, inr, IsSome}
-use Rattle.std.specs.Prelude.{option_map, map, if◌then◌else◌}
+use Rattle.std.proofs.Common.{arith, ◌≡◌, ◌≤◌, ◌<◌, ◌++◌, ◌∷◌, [], ℕ, List, length, take, sym, ◌∙◌, ap, subst, refl, Bool, true, false, Option, Some, None, ◌⊎◌, inl, inr, IsSome}
+use Rattle.std.specs.Prelude.{map}
 use Rattle.std.specs.List.{flat_map}
-use Rattle.std.proofs.lemmas.List.{append-nil, length-append}
-use Rattle.re_outside.specs.Outside.{Seen, Does, IsAtEnd, none, input_fault}
-use Rattle.re_outside.proofs.Does.{at_end}
+use Rattle.std.proofs.lemmas.List.{length-append}
+use Rattle.re_outside.specs.Outside.{Seen, Does, IsAtEnd, none}
 use Rattle.re_terms.specs.declared.program.Program.{Program}
-use Rattle.re_terms.specs.World.{World, Outcome, start_world}
+use Rattle.re_terms.specs.World.{Outcome, start_world}
 use Rattle.re_tool.specs.declared.reader.Reader.{Reader}
 use Rattle.re_tool.specs.declared.status.Status.{Status}
 use Rattle.re_tool.specs.declared.status.Status.TheVariants as status
 use Rattle.re_tool.specs.Acts.{OrderedIn}
-use Rattle.re_tool.specs.Answers.{Outcomes, Session, session_of, session_in, answers, done, close, status_line, status_of, status_in, status_with, ending, session_text, first_lines}
+use Rattle.re_tool.specs.Answers.{Session, session_of, session_in, answers, close, status_in, ending, session_text, first_lines}
 use Rattle.re_tool.specs.Clipped.{Clipped}
 use Rattle.re_tool.specs.Device.{DeviceState, Represents}
 use Rattle.re_tool.specs.Grammar.{program_of}
 use Rattle.re_tool.specs.Lines.{split, ended, without_return}
-use Rattle.re_tool.specs.Part.{Part, divided, part_of, part_in, last_lines}
+use Rattle.re_tool.specs.Part.{Part, divided, part_of, part_in}
 use Rattle.re_tool.specs.PartReading.{Divides, ReadsAll, PartFails, PartTooLong, PartStops, PartIs}
 use Rattle.re_tool.specs.Reads.{limit}
 use Rattle.re_tool.specs.Serving.{Starts}
-use Rattle.re_tool.specs.Session.{Runs, HasSeparator, AreComplete, lines_of}
+use Rattle.re_tool.specs.Session.{Runs, HasSeparator, lines_of}
 use Rattle.re_tool.proofs.Endings.{answers_to, ends_input, ends_done, ends_long}
 use Rattle.re_tool.proofs.Orders.{order_nil, ordered_all, ordered_on}
 use Rattle.re_tool.proofs.Programs.{program-kept}

@@ -1,5 +1,5 @@
 -- The order of a session's steps, line by line.
-use Rattle.std.specs.Prelude.{ℕ, ◌≡◌, ◌++◌, List, [], ◌∷◌, Bool, true, Option, Some, None}
+use Rattle.std.specs.Prelude.{ℕ, ◌≡◌, ◌++◌, List, [], ◌∷◌, true, Option, Some, None}
 use Rattle.re_outside.specs.declared.step.Step.{Step}
 use Rattle.re_outside.specs.Outside.{Seen, said}
 use Rattle.re_terms.specs.declared.program.Program.{Program}

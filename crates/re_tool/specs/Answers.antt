@@ -1,7 +1,9 @@
 -- What a run says and how it ends, as a function of the bytes read and of the outcomes.
-use Rattle.std.specs.Prelude.{ℕ, ◌-◌, List, [], ◌∷◌, ◌++◌, Bool, true, false, Option, Some, None, option_map, option_and_then, if◌then◌else◌, take, codes}
+-- Read against: the program `device a; var x: int = 2; signal s = x + 3;` with get a s, turn a x = 5, get a s says 5, ok 1, 8;
+-- `device a;` with and without a separator behind it says nothing; both end with status 0.
+use Rattle.std.specs.Prelude.{ℕ, ◌-◌, List, [], ◌∷◌, ◌++◌, Bool, true, false, Option, Some, None, option_map, if◌then◌else◌, take, codes}
 use Rattle.re_terms.specs.declared.program.Program.{Program}
-use Rattle.re_terms.specs.World.{World, Outcome, Fine, Memory, PlainCommand, TakeTurn, Get, PlainAnswer, Refused, start_world, reply, world_after}
+use Rattle.re_terms.specs.World.{World, Outcome, Fine, Memory, TakeTurn, Get, PlainAnswer, Refused, start_world, reply, world_after}
 use Rattle.re_terms.specs.declared.word.Word.TheVariants as word
 use Rattle.re_tool.specs.declared.command.Line.{Line}
 use Rattle.re_tool.specs.declared.command.Line.TheVariants as line

@@ -1,5 +1,5 @@
 -- When each status comes, in what is seen outside.
-use Rattle.std.specs.Prelude.{ℕ, ◌≡◌, ◌<◌, ◌+◌, ◌++◌, ◌⊎◌, length, take, List, [], Bool, true, false, Option, Some, None}
+use Rattle.std.specs.Prelude.{ℕ, ◌≡◌, ◌<◌, ◌+◌, ◌++◌, ◌⊎◌, length, take, List, Bool, true, Some, None}
 use Rattle.std.specs.List.{flat_map}
 use Rattle.re_outside.specs.Outside.{Seen, Counts, IsAtEnd}
 use Rattle.re_tool.specs.declared.status.Status.{Status}

@@ -1,4 +1,5 @@
 -- The program part of an input, and the lines behind it.
+-- Read against: `device a;` LF `---` LF LF LF has the part `device a;` LF and the lines '', '' and, at the end, ''.
 use Rattle.std.specs.Prelude.{ℕ, List, [], ◌∷◌, ◌++◌, Bool, ◌||◌, Option, Some, None, option_map, if◌then◌else◌, map, take, length, nat_lt, codes}
 use Rattle.std.specs.List.{flat_map}
 use Rattle.std.specs.Str.{bytes_eq}

@@ -1,5 +1,5 @@
 -- What reading the program part does.
-use Rattle.std.specs.Prelude.{ℕ, ◌≡◌, ◌≤◌, ◌+◌, List, [], ◌++◌, Bool, true, false, Option, Some, None, Result, Ok, Err, length}
+use Rattle.std.specs.Prelude.{ℕ, ◌≡◌, ◌≤◌, ◌+◌, List, [], ◌++◌, Bool, true, false, Some, None, Result, Ok, Err, length}
 use Rattle.std.specs.List.{flat_map}
 use Rattle.re_outside.specs.Outside.{Seen, Does, IsAtEnd, none, input_fault}
 use Rattle.re_tool.specs.declared.reader.Reader.{Reader}

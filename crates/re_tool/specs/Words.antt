@@ -1,4 +1,5 @@
 -- The words of a command line.
+-- Read against: `run now`, `--help` and no word at all are refused.
 use Rattle.std.specs.Prelude.{ℕ, List, [], ◌∷◌, Bool, false, codes}
 use Rattle.std.specs.Str.{bytes_eq}
 

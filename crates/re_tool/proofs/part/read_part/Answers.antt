@@ -1,7 +1,6 @@
 use Rattle.std.proofs.Common.{◌∙◌, sym, ap}
-use Rattle.re_tool.specs.Lines.{without_return, ended}
+use Rattle.re_tool.specs.Lines.{without_return}
 use Rattle.re_tool.specs.Part.{is_separator}
-use Rattle.re_tool.specs.Clipped.{clipped}
 use Rattle.re_tool.proofs.Parts.{part_start, part_more, part_divides, part_ends, part_ends_within, part_fails, part_too_long, part_stops, part_stops_behind, line_smaller}
 use Rattle.re_tool.proofs.part.read_part.Goals as goal
 

@@ -1,6 +1,5 @@
-use Rattle.std.proofs.Common.{◌∙◌, sym, ap, subst, refl}
+use Rattle.std.proofs.Common.{◌∙◌, sym, subst, refl}
 use Rattle.re_terms.specs.World.{Fine, Memory}
-use Rattle.re_tool.specs.Answers.{line_text, line_after}
 use Rattle.re_tool.specs.Commands.{line_of}
 use Rattle.re_tool.specs.Device.{Represents}
 use Rattle.re_tool.proofs.LineKinds.{blank_is, not_blank, refused_says, refused_keeps, turn_meant, get_meant, step_number}

@@ -1,6 +1,3 @@
-use Rattle.std.proofs.Common.{subst}
-use Rattle.re_outside.specs.Outside.{Seen}
-use Rattle.re_tool.specs.PartReading.{PartIs}
 use Rattle.re_tool.proofs.Endings.{near_finish}
 use Rattle.re_tool.proofs.Starting.{near_part_is, all_done, divided_starts, part_is_divided, part_is_all}
 use Rattle.re_tool.proofs.running.run_program.Goals as goal

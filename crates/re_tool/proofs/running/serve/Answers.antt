@@ -1,8 +1,6 @@
-use Rattle.std.proofs.Common.{arith, ◌∙◌, sym, ap, subst, refl, length-append, length}
+use Rattle.std.proofs.Common.{◌∙◌, ap}
 use Rattle.re_outside.specs.Outside.{Seen}
 use Rattle.re_tool.specs.Clipped.{Clipped}
-use Rattle.re_tool.specs.Commands.{line_of}
-use Rattle.re_tool.specs.Lines.{without_return}
 use Rattle.re_tool.specs.Serving.{Starts}
 use Rattle.re_tool.proofs.Sessions.{starts_so_far, ready_line, ready_end, so_far_more}
 use Rattle.re_tool.proofs.Endings.{near_failed, near_too_long, near_halted, near_memory, runs_output, runs_done, near_finish}

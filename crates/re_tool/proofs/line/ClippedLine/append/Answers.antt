@@ -1,4 +1,4 @@
-use Rattle.std.proofs.Common.{arith, ◌∙◌, ap, sym, List, ℕ, ◌-◌, min, length}
+use Rattle.std.proofs.Common.{arith, ◌∙◌, ap, List, ℕ, ◌-◌, min, length}
 use Rattle.re_tool.specs.Clipped.{Clipped}
 use Rattle.re_tool.proofs.Clipping.{append-room}
 use Rattle.re_tool.proofs.line.ClippedLine.append.Goals as goal

@@ -1,4 +1,4 @@
-use Rattle.std.proofs.Common.{◌≡◌, ◌≤◌, ◌-◌, []}
+use Rattle.std.proofs.Common.{◌≤◌, ◌-◌, []}
 use Rattle.re_outside.specs.Outside.{none}
 use Rattle.re_tool.specs.Reads.{Reads, limit}
 use Rattle.re_tool.proofs.reader.Reader.next.Given as goal
