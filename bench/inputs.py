@@ -1,0 +1,74 @@
+#!/usr/bin/env python3
+"""Makes the inputs that bench/run times: inputs.py FOLDER.
+
+Each input NAME.rescala has a file NAME.wanted beside it: the exit status, the count of lines of
+output, and the last line of it.
+"""
+
+import pathlib
+import sys
+
+LIMIT = 16_777_216
+PART = 65_536
+SMALL = "device a; var x: int = 2; signal s = x + 3;\n---\n"
+
+
+def lines(count, line):
+    """A small program and this line, so many times."""
+    return SMALL + line * count
+
+
+def padded(text, length):
+    """The text and then empty lines up to this length."""
+    return text + "\n" * (length - len(text))
+
+
+def chained(step):
+    """512 declarations, 510 of them signals over the one before, and 10,000 gets of the last."""
+    text = "device a; var x: int = 0; signal s1 = x + 1;\n"
+    for number in range(2, 511):
+        text += f"signal s{number} = " + step.format(f"s{number - 1}") + ";\n"
+    return text + "---\n" + "get a s510\n" * 10_000
+
+
+def full_of(line):
+    """An input of the greatest length, as full of this line as may be."""
+    count = (LIMIT - len(SMALL)) // len(line)
+    return padded(lines(count, line), LIMIT), count
+
+
+def longest_sum():
+    """A program part of the greatest length that is one sum of 32,759 ones."""
+    text = "device a;signal s=1" + "+1" * 32_758 + ";"
+    assert len(text) == PART
+    return text
+
+
+def all_inputs():
+    full_gets, count = full_of("get a s\n")
+    yield "first", lines(1, "get a s\n"), 0, 1, "5"
+    yield "gets_of_a_var", lines(1_000_000, "get a x\n"), 0, 1_000_000, "2"
+    yield "gets_of_a_signal", lines(1_000_000, "get a s\n"), 0, 1_000_000, "5"
+    yield "turns", lines(1_000_000, "turn a x = 5\n"), 0, 1_000_000, "ok 1000000"
+    yield "no_commands", lines(1_000_000, "no such\n"), 0, 1_000_000, "no 20"
+    yield "full_of_gets", full_gets, 0, count, "5"
+    yield "full_of_empty_lines", padded(SMALL, LIMIT), 0, 0, ""
+    yield "full_and_one_more", padded(SMALL, LIMIT + 1), 10, 1, "rescala: input too long"
+    yield "one_long_line", SMALL + "x" * (LIMIT - len(SMALL)), 0, 1, "no 20"
+    yield "one_long_part", "x" * LIMIT, 3, 1, "rescala: program: not built"
+    yield "chain_of_ones", chained("{0} + 1"), 0, 10_000, "510"
+    yield "chain_of_doubles", chained("{0} + {0}"), 0, 10_000, "fault 1"
+    yield "longest_sum_built", (
+        "device a;signal s=1" + "+1" * 63 + ";\n---\n" + "get a s\n" * 100_000
+    ), 0, 100_000, "64"
+    yield "longest_sum_refused", longest_sum(), 3, 1, "rescala: program: not built"
+
+
+def main():
+    folder = pathlib.Path(sys.argv[1])
+    for name, text, status, count, last in all_inputs():
+        (folder / f"{name}.rescala").write_bytes(text.encode())
+        (folder / f"{name}.wanted").write_text(f"{status}\n{count}\n{last}\n")
+
+
+main()
