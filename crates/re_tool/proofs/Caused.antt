@@ -2,8 +2,8 @@
 use Rattle.std.proofs.Common.{arith, ◌≡◌, ◌≤◌, ◌<◌, ◌++◌, [], ℕ, List, length, take, sym, ◌∙◌, ap, subst, refl, Bool, true, false, Option, Some, None, ◌⊎◌, inl, inr, length-append}
 use Rattle.std.specs.Prelude.{if◌then◌else◌, ◌||◌}
 use Rattle.std.specs.List.{flat_map}
-use Rattle.std.proofs.lemmas.Bool.{lt-ltb, ltb-true}
-use Rattle.std.proofs.lemmas.List.{append_cancel_right, take_all}
+use Rattle.std.proofs.lemmas.Bool.{lt-ltb, le-ltb, ltb-true}
+use Rattle.std.proofs.lemmas.List.{append_cancel_right}
 use Rattle.re_outside.specs.Outside.{Seen, Counts, Does, IsAtEnd, none}
 use Rattle.re_terms.specs.declared.program.Program.{Program}
 use Rattle.re_tool.specs.declared.status.Status.{Status}
@@ -178,20 +178,50 @@ at_program a b r t =
     }
 
 no_program_at : (read : List ℕ) (failed : Bool) (front back : List (List ℕ)) → divided (split (take limit read)).0 ≡ Some (front, back) → program_of (flat_map ended front) ≡ None → status_of read failed ≡ status.Program
-no_program_at read failed front back h none =
+no_program_at read failed front back h lacks =
     let parts = split (take limit read) in
     let is_cut = is_over read || failed in
-    ap (λ x. status_in (part_by parts.0 parts.1 is_cut x) (ending read failed)) h ∙ ap (λ o. status_with o (ending read failed)) none
+    ap (λ x. status_in (part_by parts.0 parts.1 is_cut x) (ending read failed)) h ∙ ap (λ o. status_with o (ending read failed)) lacks
 
 program_always : (a b : Seen) (s : Status) → Runs a b s → (read : List ℕ) (front back : List (List ℕ)) → a.told ≡ true → a.left ≡ read ++ b.left → divided (split (take limit read)).0 ≡ Some (front, back) → program_of (flat_map ended front) ≡ None → IsUnlessEnded status.Program s
-program_always a b s r read front back t left h none =
+program_always a b s r read front back t left h lacks =
     let same : read ≡ r.read = append_cancel_right read r.read b.left (sym left ∙ r.does.moves.left t) in
-    subst (λ x. IsUnlessEnded x s) (no_program_at r.read r.outcomes.input_failed front back (ap (λ x. divided (split (take limit x)).0) (sym same) ∙ h) none) (ends_with a b s r)
+    subst (λ x. IsUnlessEnded x s) (no_program_at r.read r.outcomes.input_failed front back (ap (λ x. divided (split (take limit x)).0) (sym same) ∙ h) lacks) (ends_with a b s r)
+
+refused_ends : (read : List ℕ) (part : Part) → part_of read false ≡ Some part → program_of part.text ≡ None → status_of read false ≡ status.Program
+refused_ends read part is lacks =
+    let e : status_in (Some part) (ending read false) ≡ status.Program = rw lacks refl in
+    ap (λ x. status_in x (ending read false)) is ∙ e
+
+input_ends : (read : List ℕ) → length read ≤ limit → ending read true ≡ status.Input
+input_ends read h = rw (le-ltb limit (length read) h) refl
+
+-- a run whose input is no program ends with 3, or with 7 where the input failed
+ends_refused : (read : List ℕ) (part : Part) (failed : Bool) → length read ≤ limit → part_of read false ≡ Some part → program_of part.text ≡ None → (status_of read failed ≡ status.Program) ⊎ (status_of read failed ≡ status.Input)
+ends_refused read part false few is lacks = inl (refused_ends read part is lacks)
+ends_refused read part true few is lacks = failing (in_over (part_of read true) (ending read true))
+  where
+    failing : (status_of read true ≡ status.Program) ⊎ (status_of read true ≡ ending read true) → (status_of read true ≡ status.Program) ⊎ (status_of read true ≡ status.Input)
+    failing (inl h) = inl h
+    failing (inr h) = inr (h ∙ input_ends read few)
+
+program_at_end : (a b : Seen) (s : Status) → Runs a b s → (read : List ℕ) (part : Part) → a.told ≡ true → a.left ≡ read ++ b.left → length read ≤ limit → part_of read false ≡ Some part → program_of part.text ≡ None
+    → IsUnlessEnded status.Program s ⊎ (s ≡ status.Input)
+program_at_end a b s r read part t left few is lacks = ended (ends_refused r.read part r.outcomes.input_failed (subst (λ x. length x ≤ limit) same few) (ap (λ x. part_of x false) (sym same) ∙ is) lacks) (ends_with a b s r)
+  where
+    same : read ≡ r.read
+    same = append_cancel_right read r.read b.left (sym left ∙ r.does.moves.left t)
+
+    ended : (status_of r.read r.outcomes.input_failed ≡ status.Program) ⊎ (status_of r.read r.outcomes.input_failed ≡ status.Input) → IsUnlessEnded (status_of r.read r.outcomes.input_failed) s → IsUnlessEnded status.Program s ⊎ (s ≡ status.Input)
+    ended (inl h) e = inl (subst (λ x. IsUnlessEnded x s) h e)
+    ended (inr h) (inl e) = inr (e ∙ h)
+    ended (inr h) (inr e) = inl (inr e)
 
 pub program_cause : (a b : Seen) (s : Status) → Runs a b s → ProgramCause a b s
 program_cause a b s r = record {
   only = λ t h. at_program a b (subst (Runs a b) h r) t;
   always = program_always a b s r;
+  at_end = program_at_end a b s r;
 }
 
 -- ---- runs that end before they begin
@@ -269,26 +299,6 @@ pub refused_too_long : (a b : Seen) (s : Status) → Refuses a b s → TooLongCa
 refused_too_long a b s d = record {
   only = λ t h. absurd (never s status.TooLong (refuses_with a b s d) h (λ q. cc) (λ q. cc) (λ q. cc));
   always = λ t h. absurd (omega (arith, h, ap length (untaken a b s (refuses_at_once a b s d) t)));
-}
-
-nothing_read : (read left : List ℕ) → left ≡ read ++ left → read ≡ []
-nothing_read read left e = append_cancel_right read [] left (sym e)
-
-some_none : {A : Type 0} (x : A) → Some x ≡ None → ⊥
-some_none x h = cc
-
-parts_of_none : (n : ℕ) → divided (split (take n [])).0 ≡ None
-parts_of_none n = ap (λ l. divided (split l).0) (take_all n [] (omega arith))
-
-unread : (a b : Seen) (s : Status) (read : List ℕ) (front back : List (List ℕ)) → EndsAtOnce a b s → a.told ≡ true → a.left ≡ read ++ b.left → divided (split (take limit read)).0 ≡ Some (front, back) → ⊥
-unread a b s read front back e t left h =
-    let empty : read ≡ [] = nothing_read read b.left (sym (untaken a b s e t) ∙ left) in
-    some_none (front, back) (sym h ∙ ap (λ r. divided (split (take limit r)).0) empty ∙ parts_of_none limit)
-
-pub refused_program : (a b : Seen) (s : Status) → Refuses a b s → ProgramCause a b s
-refused_program a b s d = record {
-  only = λ t h. absurd (never s status.Program (refuses_with a b s d) h (λ q. cc) (λ q. cc) (λ q. cc));
-  always = λ read front back t left h none. absurd (unread a b s read front back (refuses_at_once a b s d) t left h);
 }
 
 -- a run never says that the words are bad

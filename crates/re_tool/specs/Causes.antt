@@ -1,5 +1,5 @@
 -- When each status comes, in what is seen outside.
-use Rattle.std.specs.Prelude.{ℕ, ◌≡◌, ◌<◌, ◌+◌, ◌++◌, ◌⊎◌, length, take, List, Bool, true, Some, None}
+use Rattle.std.specs.Prelude.{ℕ, ◌≡◌, ◌<◌, ◌≤◌, ◌+◌, ◌++◌, ◌⊎◌, length, take, List, Bool, true, false, Some, None}
 use Rattle.std.specs.List.{flat_map}
 use Rattle.re_outside.specs.Outside.{Seen, Counts, IsAtEnd}
 use Rattle.re_tool.specs.declared.status.Status.{Status}
@@ -51,3 +51,6 @@ pub record ProgramCause (old new : Seen) (s : Status) : Type 0 where
   -- where the separator was read and the lines before it are no program
   pub always : (read : List ℕ) (front back : List (List ℕ)) → old.told ≡ true → old.left ≡ read ++ new.left → divided (split (take limit read)).0 ≡ Some (front, back) → program_of (flat_map ended front) ≡ None
       → IsUnlessEnded status.Program s
+  -- where the input was the program part and is no program; a failed `take` may come first
+  pub at_end : (read : List ℕ) (part : Part) → old.told ≡ true → old.left ≡ read ++ new.left → length read ≤ limit → part_of read false ≡ Some part → program_of part.text ≡ None
+      → IsUnlessEnded status.Program s ⊎ (s ≡ status.Input)

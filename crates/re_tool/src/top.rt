@@ -29,7 +29,7 @@ pub fn tool<R: Threads + Wait + Sync, O: Outside + Send, G: Gate>(
     ensures refused { is_accepted (map string_bytes words.now) ≡ false → Refuses (O.Outside.seen out.old) (O.Outside.seen out.new) result }
     ensures words { result ≡ Status.Words → is_accepted (map string_bytes words.now) ≡ false }
     ensures end { EndCause (O.Outside.seen out.old) (O.Outside.seen out.new) result }
-    ensures program { ProgramCause (O.Outside.seen out.old) (O.Outside.seen out.new) result }
+    ensures program { is_accepted (map string_bytes words.now) ≡ true → ProgramCause (O.Outside.seen out.old) (O.Outside.seen out.new) result }
     ensures input { InputCause (O.Outside.seen out.old) (O.Outside.seen out.new) result }
     ensures output { OutputCause (O.Outside.seen out.old) (O.Outside.seen out.new) result }
     ensures too_long { TooLongCause (O.Outside.seen out.old) (O.Outside.seen out.new) result }
