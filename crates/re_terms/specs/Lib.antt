@@ -1,4 +1,5 @@
 pub mod Arithmetic
+pub mod Layouts
 pub mod Listed
 pub mod Meaning
 pub mod Plain

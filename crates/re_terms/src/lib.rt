@@ -1,16 +1,34 @@
-//! The types of programs, expressions, words and lists, and the definitions that contracts cite.
+//! The types of programs, expressions, words, states and lists, and the definitions that contracts cite.
 #![tactic(auto)]
 
+pub mod command;
 pub mod copying;
+pub mod entry;
 pub mod expr;
+pub mod kinds;
 pub mod program;
+pub mod raw;
+pub mod raw_expr;
+pub mod replicated;
 pub mod seq;
+#[cfg(test)]
+mod tests;
 pub mod text;
+pub mod token;
 pub mod word;
 
+pub use command::{Answer, Command};
 pub use copying::TryCopy;
+pub use entry::{Admitted, Entry, Logged, Put, State, Turn};
 pub use expr::{Expr, Op};
+pub use kinds::{allows, layout};
 pub use program::{Body, Decl, Program};
+pub use raw::{RawBody, RawDecl, RawPart, RawTurn, Tree};
+pub use raw_expr::{RawExpr, RawLit};
+pub use replicated::{
+    Act, Dot, Layout, Pair, RCell, RKind, RState, RepOp, Rows, SetFault, Shape, Vector, Written,
+};
 pub use seq::Seq;
 pub use text::Text;
+pub use token::{Mark, Token};
 pub use word::{Kind, Word};
