@@ -4,4 +4,6 @@ pub mod Listed
 pub mod Meaning
 pub mod Plain
 pub mod Signal
+pub mod Tokens
+pub mod Trees
 pub mod World

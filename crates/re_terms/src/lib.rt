@@ -10,7 +10,9 @@ pub mod program;
 pub mod raw;
 pub mod raw_expr;
 pub mod replicated;
+pub mod reserved;
 pub mod seq;
+pub mod signs;
 #[cfg(test)]
 mod tests;
 pub mod text;
