@@ -1,0 +1,15 @@
+//! Reads a text into its list of tokens.
+#![tactic(auto)]
+
+mod bytes;
+mod fault;
+mod gap;
+pub mod laws;
+mod scanner;
+mod signs;
+#[cfg(test)]
+mod tests;
+mod words;
+
+pub use fault::LexFault;
+pub use scanner::tokens;
