@@ -7,6 +7,7 @@ mod gap;
 pub mod laws;
 mod scanner;
 mod signs;
+mod table;
 #[cfg(test)]
 mod tests;
 mod words;

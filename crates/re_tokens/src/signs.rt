@@ -3,6 +3,8 @@ ghost use Rattle.std.specs.Prelude.{◌≡◌, ◌<◌, length, map, position, t
 ghost use Rattle.std.specs.Str.{bytes_eq};
 ghost use Rattle.re_terms.specs.Tokens.{signs};
 
+use crate::table::place_in;
+
 const SIGNS: [&[u8]; 17] = [
     b";", b":", b"=", b",", b"(", b")", b"+", b"-", b"*", b"/", b"%", b"<", b">", b"==", b"!=",
     b"<=", b">=",
@@ -12,10 +14,5 @@ const SIGNS: [&[u8]; 17] = [
 pub fn sign_place(bytes: &[u8]) -> Option<u8>
     ensures { result ≡ position (bytes_eq bytes.now) signs }
 {
-    for (place, entry) in SIGNS.iter().enumerate() {
-        if bytes == *entry {
-            return Some(place as u8);
-        }
-    }
-    None
+    place_in(&SIGNS, bytes)
 }

@@ -6,6 +6,7 @@ ghost use Rattle.re_terms.specs.Tokens.{reserved_words, is_word_byte};
 ghost use Rattle.re_tokens.specs.Scanning.{number_of, word_mark};
 
 use crate::bytes::{is_digit, is_letter, is_word_byte};
+use crate::table::place_in;
 use re_terms::{Mark, Text};
 use std::alloc::{AllocError, Global};
 
@@ -53,12 +54,7 @@ const MAX_WORD: usize = 32;
 fn reserved_place(word: &[u8]) -> Option<u8>
     ensures { result ≡ position (bytes_eq word.now) reserved_words }
 {
-    for (place, entry) in RESERVED_WORDS.iter().enumerate() {
-        if word == *entry {
-            return Some(place as u8);
-        }
-    }
-    None
+    place_in(&RESERVED_WORDS, word)
 }
 
 /// How many bytes of a word a text begins with.
