@@ -1,16 +1,16 @@
 -- The mark that the scanner finds is the one that the text begins with.
-use Rattle.std.proofs.Common.{ℕ, suc, ◌≡◌, ◌≤◌, ◌<◌, ◌+◌, ◌⊎◌, inl, inr, ◌&&◌, Bool, true, false, cond, nat_lt, nat_le, List, [], ◌∷◌, ◌++◌, length, get_or, take, drop, Option, Some, None, option_map, refl, sym, ap, subst, ◌∙◌, arith}
+use Rattle.std.proofs.Common.{ℕ, suc, ◌≡◌, ◌<◌, ◌+◌, ◌⊎◌, inl, inr, ◌&&◌, Bool, true, false, cond, nat_le, List, [], ◌∷◌, length, get_or, take, drop, Option, Some, None, option_map, refl, sym, ap, subst, ◌∙◌, arith}
 use Rattle.std.specs.List.{list_all, list_any, prefix_len, position}
 use Rattle.std.specs.Str.{bytes_eq}
-use Rattle.std.proofs.lemmas.Bool.{and_parts, and_from, not_from_false, cond-true, cond-false, cases_Bool, and_right, both_ways}
+use Rattle.std.proofs.lemmas.Bool.{and_parts, and_from, not_from_false, cond-true, cases_Bool, and_right, both_ways}
 use Rattle.std.proofs.lemmas.List.{take-append-drop}
 use Rattle.re_terms.specs.Listed.{plain}
-use Rattle.re_terms.specs.Tokens.{reserved_words, signs, is_digit, is_letter, is_word_byte, is_name}
+use Rattle.re_terms.specs.Tokens.{reserved_words, signs, is_digit, is_letter, is_word_byte}
 use Rattle.re_terms.specs.declared.token.Mark.{Mark}
 use Rattle.re_terms.specs.declared.token.Mark.TheVariants as mark
 use Rattle.re_tokens.specs.TokenGrammar.{Spells, goes_on, IsMarkAt}
-use Rattle.re_tokens.specs.Scanning.{number_of, reserved_or_name, word_mark, sign_then, sign_or_short, word_then, first_mark}
-use Rattle.re_tokens.proofs.Marks.{and_three, and_four_from, some_same, none_placed, number_sound, begins_word, other_mark, first_of_word, first_of_sign, sign_like}
+use Rattle.re_tokens.specs.Scanning.{number_of, reserved_or_name, word_mark, sign_then, sign_or_short, first_mark}
+use Rattle.re_tokens.proofs.Marks.{and_four_from, some_same, none_placed, number_sound, begins_word, other_mark, first_of_word, first_of_sign, sign_like}
 
 pub record Found (text : List ℕ) (p : Mark × List ℕ) : Type 0 where
   pub word : List ℕ

@@ -1,8 +1,8 @@
 -- Separators, and the text behind them.
-use Rattle.std.proofs.Common.{ℕ, ◌≡◌, ◌==◌, ◌⊎◌, inl, inr, ◌&&◌, ◌||◌, Bool, true, false, cond, not, List, [], ◌∷◌, ◌++◌, refl, sym, ap, ◌∙◌, append_assoc, ◌≤◌, ◌+◌, length, length-append, arith}
+use Rattle.std.proofs.Common.{ℕ, ◌≡◌, ◌==◌, ◌⊎◌, inl, inr, ◌&&◌, Bool, true, false, cond, not, List, [], ◌∷◌, ◌++◌, refl, sym, ap, ◌∙◌, append_assoc, ◌≤◌, ◌+◌, length, length-append, arith}
 use Rattle.std.specs.List.{list_all, list_any}
 use Rattle.std.proofs.lemmas.Bool.{and_parts, and_from, or_parts, or_from, not-true, not_from_false, cond-true, cond-false, eqb-true, ne_eqb, true≢false}
-use Rattle.re_tokens.specs.TokenGrammar.{Separator, Blank, Comment, is_blank, is_one_line, is_separator, separator_bytes, gap_bytes, is_last_comment, IsLastGap, is_in_token}
+use Rattle.re_tokens.specs.TokenGrammar.{Separator, Blank, Comment, is_blank, is_one_line, is_separator, gap_bytes, is_last_comment, IsLastGap, is_in_token}
 use Rattle.re_tokens.specs.Scanning.{behind_gap}
 
 -- a blank begins no comment

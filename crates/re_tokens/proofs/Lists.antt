@@ -1,7 +1,6 @@
 -- What each list of tokens is.
-use Rattle.std.proofs.Common.{ℕ, suc, ◌≡◌, ◌≤◌, ◌<◌, ◌+◌, ◌^◌, ◌==◌, ◌&&◌, Bool, true, false, List, [], ◌∷◌, ◌++◌, length, refl, sym, ap, subst, ◌∙◌, arith, length-append, nat_le}
+use Rattle.std.proofs.Common.{ℕ, suc, ◌≡◌, ◌≤◌, ◌<◌, ◌+◌, ◌^◌, Bool, true, false, List, [], ◌∷◌, ◌++◌, length, refl, ap, ◌∙◌, arith, length-append}
 use Rattle.std.proofs.lemmas.Bool.{and_from, le-leb, lt-ltb}
-use Rattle.re_terms.specs.Listed.{Listed, plain}
 use Rattle.re_terms.specs.Tokens.{reserved_words, signs, is_mark, ends_well, ends_from, IsTokenList}
 use Rattle.re_terms.specs.declared.token.Mark.{Mark}
 use Rattle.re_terms.specs.declared.token.Mark.TheVariants as mark

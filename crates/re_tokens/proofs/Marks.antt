@@ -2,21 +2,20 @@
 use Rattle.std.proofs.Common.{ℕ, suc, ◌≡◌, ◌≤◌, ◌<◌, ◌+◌, ◌*◌, ◌-◌, ◌^◌, ◌==◌, ◌⊎◌, inl, inr, ◌&&◌, ◌||◌, Bool, true, false, cond, not, nat_lt, nat_le, List, [], ◌∷◌, ◌++◌, length, get_or, take, drop, Option, Some, None, option_map, refl, sym, ap, subst, ◌∙◌, arith}
 use Rattle.std.specs.List.{list_all, list_any, prefix_len, position, position_or_len}
 use Rattle.std.specs.Str.{bytes_eq}
-use Rattle.std.specs.Str.Parse.{digits_value, digits_value_after}
+use Rattle.std.specs.Str.Parse.{digits_value_after}
 use Rattle.std.specs.Char.{digit_value}
 use Rattle.std.proofs.Math.Seq.{take-append_seam, drop-append_seam}
-use Rattle.std.proofs.lemmas.Bool.{and_parts, and_from, and_left, and_right, or_parts, or_cases, or_left, or_right, not-true, not_from_false, cond-true, cond-false, eqb-true, eq-eqb, leb-true, lt-leb, le-leb, le-ltb, ltb-true, ltb-false, lt-ltb, true_from_ne_false, false_from_ne_true, both_ways}
+use Rattle.std.proofs.lemmas.Bool.{and_parts, and_from, and_right, or_cases, not-true, not_from_false, cond-true, cond-false, eqb-true, eq-eqb, leb-true, lt-leb, le-leb, le-ltb, ltb-true, ltb-false, lt-ltb, true_from_ne_false, false_from_ne_true, both_ways}
 use Rattle.std.proofs.lemmas.Bool.Decides.{nat_tests}
-use Rattle.std.proofs.lemmas.List.{take-append-drop}
 use Rattle.std.proofs.lemmas.List.Folds.{list_any_at, list_all_at}
 use Rattle.std.proofs.lemmas.List.Quantifiers.{position-Some}
 use Rattle.std.proofs.lemmas.Slice.Eq.{bytes_eq-Decides}
 use Rattle.std.proofs.lemmas.Str.{digit_value_digit}
-use Rattle.re_terms.specs.Listed.{Listed, plain}
-use Rattle.re_terms.specs.Tokens.{reserved_words, signs, is_digit, is_letter, is_word_byte, is_name}
+use Rattle.re_terms.specs.Listed.{Listed}
+use Rattle.re_terms.specs.Tokens.{reserved_words, signs, is_digit, is_letter, is_word_byte}
 use Rattle.re_terms.specs.declared.token.Mark.{Mark}
 use Rattle.re_terms.specs.declared.token.Mark.TheVariants as mark
-use Rattle.re_tokens.specs.TokenGrammar.{is_numeral, Spells, goes_on, IsMarkAt, is_in_token, is_blank}
+use Rattle.re_tokens.specs.TokenGrammar.{Spells, goes_on, IsMarkAt, is_in_token, is_blank}
 use Rattle.re_tokens.specs.Scanning.{number_from, number_of, reserved_or_name, word_mark, sign_then, sign_or_short, word_then, first_mark}
 
 -- tests of three and of four parts

@@ -1,12 +1,12 @@
 -- Tokens read one behind the other.
-use Rattle.std.proofs.Common.{ℕ, suc, ◌≡◌, ◌≤◌, ◌<◌, ◌+◌, ◌-◌, Bool, true, false, List, [], ◌∷◌, ◌++◌, length, Option, Some, None, refl, sym, ap, subst, ◌∙◌, arith, length-append}
+use Rattle.std.proofs.Common.{ℕ, ◌≡◌, ◌≤◌, ◌<◌, ◌+◌, ◌-◌, true, false, List, [], ◌∷◌, ◌++◌, length, Some, None, refl, sym, ap, subst, ◌∙◌, arith, length-append}
 use Rattle.std.specs.List.{list_all}
 use Rattle.re_terms.specs.Listed.{Listed, plain}
 use Rattle.re_terms.specs.declared.token.Mark.{Mark}
 use Rattle.re_terms.specs.declared.token.Token.{Token}
-use Rattle.re_tokens.specs.TokenGrammar.{Separator, gap_bytes, is_separator, is_in_token, IsMarkAt, IsTokenAt, Begins, end_of, IsTokens, NoTokenAt, IsLastGap}
+use Rattle.re_tokens.specs.TokenGrammar.{Separator, gap_bytes, is_separator, is_in_token, IsMarkAt, IsTokenAt, Begins, end_of, IsTokens, NoTokenAt}
 use Rattle.re_tokens.specs.Scanning.{behind_gap, first_mark}
-use Rattle.re_tokens.proofs.Gaps.{Behind, behind_gap-le, split_some, split_none}
+use Rattle.re_tokens.proofs.Gaps.{behind_gap-le, split_some, split_none}
 use Rattle.re_tokens.proofs.Marks.{first_complete, spelled_some}
 use Rattle.re_tokens.proofs.Found.{Found, first_sound}
 

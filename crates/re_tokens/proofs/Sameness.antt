@@ -1,11 +1,10 @@
 -- A text is read in one way.
-use Rattle.std.proofs.Common.{ℕ, suc, ◌≡◌, ◌+◌, Bool, true, false, List, [], ◌∷◌, ◌++◌, length, Some, refl, sym, ap, subst, ◌∙◌, arith, length-append}
+use Rattle.std.proofs.Common.{ℕ, ◌≡◌, ◌+◌, true, false, List, [], ◌∷◌, ◌++◌, length, refl, sym, ap, subst, ◌∙◌, arith, length-append}
 use Rattle.std.proofs.lemmas.Bool.{true≢false}
-use Rattle.std.proofs.lemmas.List.{append_cancel_right}
 use Rattle.re_terms.specs.declared.token.Mark.{Mark}
 use Rattle.re_terms.specs.declared.token.Token.{Token}
 use Rattle.re_tokens.specs.TokenGrammar.{gap_bytes, is_in_token, IsMarkAt, IsTokenAt, Begins, end_of, IsTokens, NoTokenAt, IsLastGap}
-use Rattle.re_tokens.specs.Scanning.{behind_gap, first_mark}
+use Rattle.re_tokens.specs.Scanning.{behind_gap}
 use Rattle.re_tokens.proofs.Gaps.{behind_some, behind_last}
 use Rattle.re_tokens.proofs.Marks.{some_same, first_complete, mark_in_token}
 

@@ -1,10 +1,12 @@
 //! Tests.
+ghost use Rattle.std.specs.Prelude.{◌<◌, ◌^◌, length};
+
 use crate::{LexFault, tokens};
 use re_terms::{Mark, Seq, Token};
 use std::alloc::Global;
 use std::test::Fail;
 
-/// What a mark is, in one letter, with its number or place; a name's length and a name's bytes are told apart elsewhere.
+/// What a mark is, in one letter, with its number or its place, or a name's length.
 fn shape(mark: &Mark) -> (u8, u64) {
     match mark {
         Mark::Number(number) => (b'n', *number),
@@ -16,7 +18,9 @@ fn shape(mark: &Mark) -> (u8, u64) {
 }
 
 /// Whether a text has these tokens, each given by its place and its shape.
-fn has(alloc: Global, text: &[u8], wanted: &[(u32, u8, u64)]) -> Result<bool, LexFault> {
+fn has(alloc: Global, text: &[u8], wanted: &[(u32, u8, u64)]) -> Result<bool, LexFault>
+    requires { length text.now < 2 ^ 32 }
+{
     let found = tokens(alloc, text)?;
     if found.len() != wanted.len() {
         return Ok(false);

@@ -1,9 +1,8 @@
-use Rattle.std.proofs.Common.{ℕ, ◌≡◌, ◌<◌, ◌-◌, ◌++◌, ◌∷◌, [], length, refl, sym, ap, subst, ◌∙◌, arith}
-use Rattle.std.proofs.lemmas.Grind.{common_steps}
+use Rattle.std.proofs.Common.{◌≡◌, ◌<◌, length, refl, sym, ap, subst, arith}
 use Rattle.std.specs.Prelude.{Err, IsErrAnd}
 use Rattle.re_tokens.specs.declared.fault.LexFault.TheVariants as LexFault
 use Rattle.re_tokens.proofs.Lists.{is_token_list}
-use Rattle.re_tokens.proofs.Reading.{reads_first, reads_more, reads_all, reads_none, rest_within, left_shorter}
+use Rattle.re_tokens.proofs.Reading.{reads_more, reads_all, reads_none, rest_within, left_shorter}
 use Rattle.re_tokens.proofs.scanner.tokens.Goals as goal
 
 pub overflow_sub-at : goal.overflow_sub-at
