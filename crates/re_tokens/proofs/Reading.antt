@@ -24,9 +24,6 @@ pub record Reads (text : List ℕ) (found : Listed Token) (rest : List ℕ) : Ty
   pub skipped : rest ≡ behind_gap false behind
   pub unreserved : found.spare ≡ 0
 
-pub reads_first : (text rest : List ℕ) → rest ≡ behind_gap false text → Reads text (plain []) rest
-reads_first text rest e = record { after = 0; behind = text; begins = (refl, refl); place = omega arith; skipped = e; unreserved = refl }
-
 -- what the next token's place is, and how it stands there
 record Next (text : List ℕ) (found : Listed Token) (rest : List ℕ) : Type 0 where
   after : ℕ
