@@ -46,6 +46,11 @@ const RESERVED_WORDS: [&[u8]; 33] = [
     b"sym",
 ];
 
+// Most names are told from the reserved words by their length alone.
+const SHORTEST_RESERVED: usize = 2;
+
+const LONGEST_RESERVED: usize = 8;
+
 const MAX_NUMBER: u64 = 1 << 63;
 
 const MAX_WORD: usize = 32;
@@ -54,6 +59,9 @@ const MAX_WORD: usize = 32;
 fn reserved_place(word: &[u8]) -> Option<u8>
     ensures { result ≡ position (bytes_eq word.now) reserved_words }
 {
+    if word.len() < SHORTEST_RESERVED || word.len() > LONGEST_RESERVED {
+        return None;
+    }
     place_in(&RESERVED_WORDS, word)
 }
 
