@@ -15,13 +15,7 @@ use Rattle.re_terms.specs.declared.program.Body.{Body}
 use Rattle.re_terms.specs.declared.program.Body.TheVariants as body
 use Rattle.re_terms.specs.declared.program.Decl.{Decl}
 use Rattle.re_terms.specs.declared.program.Program.{Program}
-
-abbrev pub is_symbol_body : Body → Bool
-is_symbol_body body.Symbol = true
-is_symbol_body b = false
-
-abbrev pub is_symbol : Decl → Bool
-is_symbol d = is_symbol_body d.body
+use Rattle.re_terms.specs.Programs.{is_symbol}
 
 -- a declaration's name; nothing where there is no declaration
 abbrev pub declared_name : Option Decl → List ℕ

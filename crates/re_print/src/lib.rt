@@ -5,6 +5,8 @@ mod exprs;
 mod lines;
 mod names;
 pub mod print;
+#[cfg(test)]
+mod tests;
 mod texts;
 mod words;
 

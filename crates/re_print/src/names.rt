@@ -1,6 +1,7 @@
 //! The names of a program's declarations and symbols.
 ghost use Rattle.std.specs.Prelude.{◌≡◌, IfOk};
-ghost use Rattle.re_print.specs.Canonical.{is_symbol, name_text, symbol_text};
+ghost use Rattle.re_terms.specs.Programs.{is_symbol};
+ghost use Rattle.re_print.specs.Canonical.{name_text, symbol_text};
 
 use re_terms::{Body, Decl, Program};
 use std::alloc::{AllocError, Global};
@@ -42,9 +43,8 @@ impl<'a> Model for Names<'a> {
     ghost use Rattle.std.specs.Prelude.{◌≡◌, map, filter};
     ghost use Rattle.std.specs.Coded.{codes};
     ghost use Rattle.re_terms.specs.contracts.expr.Expr as expr;
-    ghost use Rattle.re_terms.specs.Listed.{listed_code};
     ghost use Rattle.re_terms.specs.declared.program.Program.{Program};
-    ghost use Rattle.re_print.specs.Canonical.{is_symbol};
+    ghost use Rattle.re_terms.specs.Programs.{is_symbol};
 
     ghost Value = { Program };
 

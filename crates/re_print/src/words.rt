@@ -36,7 +36,7 @@ pub fn write_literal(text: &mut Vec<u8>, names: &Names<'_>, word: Word) -> Resul
     ensures { OnOk result (text.new.items ≡ text.old.items ++ literal_text names.now word) }
 {
     match word {
-        Word::Int(number) => write_number(text, number),
+        Word::Int(value) => write_number(text, value),
         Word::Bool(truth) => text.extend_from_slice(truth_text(truth)),
         Word::Sym(number) => text.extend_from_slice(names.symbol(number)),
         Word::Fault(code) => {

@@ -1,6 +1,7 @@
 use Rattle.std.proofs.Common.{◌≡◌, drop}
 use Rattle.std.specs.Prelude.{filter, slice_get}
-use Rattle.re_print.specs.Canonical.{is_symbol, declared_name, symbol_text}
+use Rattle.re_terms.specs.Programs.{is_symbol}
+use Rattle.re_print.specs.Canonical.{declared_name, symbol_text}
 use Rattle.re_print.proofs.names.symbol_name.Given as goal
 
 -- so many symbols stand before the one that is sought, from here on

@@ -1,6 +1,6 @@
 use Rattle.std.proofs.Common.{◌≡◌, map, take}
 use Rattle.std.specs.Prelude.{filter}
-use Rattle.re_print.specs.Canonical.{is_symbol}
+use Rattle.re_terms.specs.Programs.{is_symbol}
 use Rattle.re_print.proofs.names.Names.of.Given as goal
 
 -- the symbols among the declarations so far
