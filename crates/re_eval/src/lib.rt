@@ -1,0 +1,11 @@
+//! The words of expressions.
+#![tactic(auto)]
+
+mod env;
+mod evaluate;
+mod operators;
+mod steps;
+
+pub use env::Env;
+pub use evaluate::eval;
+pub use steps::Steps;
