@@ -1,4 +1,5 @@
 pub mod Arithmetic
+pub mod Dependencies
 pub mod Layouts
 pub mod Listed
 pub mod Meaning
