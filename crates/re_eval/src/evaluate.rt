@@ -1,5 +1,6 @@
 //! Evaluates expressions.
 ghost use Rattle.std.specs.Prelude.{◌≡◌, ◌+◌, is_some, true};
+ghost use Rattle.re_terms.specs.Arithmetic.{operator_word, if_word};
 ghost use Rattle.re_terms.specs.Meaning.{meaning};
 ghost use Rattle.re_eval.specs.Told.{environment};
 ghost use Rattle.re_eval.specs.Given.{is_given};
@@ -9,6 +10,55 @@ use crate::operators::{negated, strict};
 use crate::steps::Steps;
 use re_terms::{Expr, Op, Word};
 use std::sync::ledger::Ledger;
+
+/// The word of an operator and its operands. `and` and `or` leave the second out where the first settles them or is a
+/// fault.
+#[cycle(word)]
+fn operator_word_of<E: Env>(
+    op: Op,
+    left: &Expr,
+    right: &Expr,
+    env: &E,
+    arg: Option<Word>,
+    own: Option<Word>,
+) -> Word
+    requires left { is_given (is_some arg) (is_some own) left.now ≡ true }
+    requires right { is_given (is_some arg) (is_some own) right.now ≡ true }
+    ensures { let env = environment (E.told env.now) arg own in
+        result ≡ operator_word op (meaning left.now env) (meaning right.now env) }
+{
+    let first = word_of(left, env, arg, own);
+    match (op, first) {
+        (Op::And | Op::Or, Word::Fault(_)) => first,
+        (Op::And, Word::Bool(false)) | (Op::Or, Word::Bool(true)) => first,
+        (Op::And | Op::Or, _) => word_of(right, env, arg, own),
+        _ => strict(op, first, word_of(right, env, arg, own)),
+    }
+}
+
+/// The word of the branch that the condition picks, or the condition's fault. The other branch is left out.
+#[cycle(word)]
+fn branch_word_of<E: Env>(
+    cond: &Expr,
+    yes: &Expr,
+    no: &Expr,
+    env: &E,
+    arg: Option<Word>,
+    own: Option<Word>,
+) -> Word
+    requires cond { is_given (is_some arg) (is_some own) cond.now ≡ true }
+    requires yes { is_given (is_some arg) (is_some own) yes.now ≡ true }
+    requires no { is_given (is_some arg) (is_some own) no.now ≡ true }
+    ensures { let env = environment (E.told env.now) arg own in
+        result ≡ if_word (meaning cond.now env) (meaning yes.now env) (meaning no.now env) }
+{
+    let condition = word_of(cond, env, arg, own);
+    match condition {
+        Word::Fault(_) => condition,
+        Word::Bool(false) => word_of(no, env, arg, own),
+        _ => word_of(yes, env, arg, own),
+    }
+}
 
 /// The word of an expression, by recursion on its operands. It counts nothing.
 #[cycle(word)]
@@ -23,22 +73,16 @@ fn word_of<E: Env>(e: &Expr, env: &E, arg: Option<Word>, own: Option<Word>) -> W
         Expr::Own => own.unwrap(),
         Expr::Not(operand) => negated(word_of(operand.get(), env, arg, own)),
         Expr::Bin { op, left, right } => {
-            let first = word_of(left.get(), env, arg, own);
-            match (op, first) {
-                (Op::And | Op::Or, Word::Fault(_)) => first,
-                (Op::And, Word::Bool(false)) | (Op::Or, Word::Bool(true)) => first,
-                (Op::And | Op::Or, _) => word_of(right.get(), env, arg, own),
-                _ => strict(*op, first, word_of(right.get(), env, arg, own)),
-            }
+            operator_word_of(*op, left.get(), right.get(), env, arg, own)
         }
-        Expr::If { cond, yes, no } => {
-            let condition = word_of(cond.get(), env, arg, own);
-            match condition {
-                Word::Fault(_) => condition,
-                Word::Bool(false) => word_of(no.get(), env, arg, own),
-                _ => word_of(yes.get(), env, arg, own),
-            }
-        }
+        Expr::If { cond, yes, no } => branch_word_of(
+            cond.get(),
+            yes.get(),
+            no.get(),
+            env,
+            arg,
+            own,
+        ),
         Expr::Recover { tried, other } => match word_of(tried.get(), env, arg, own) {
             Word::Fault(_) => word_of(other.get(), env, arg, own),
             word => word,

@@ -5,6 +5,8 @@ mod env;
 mod evaluate;
 mod operators;
 mod steps;
+#[cfg(test)]
+mod tests;
 
 pub use env::Env;
 pub use evaluate::eval;
