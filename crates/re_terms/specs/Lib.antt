@@ -1,8 +1,11 @@
 pub mod Arithmetic
+pub mod Kinds
+pub mod Dependencies
 pub mod Layouts
 pub mod Listed
 pub mod Meaning
 pub mod Plain
+pub mod Programs
 pub mod Signal
 pub mod Tokens
 pub mod Trees

@@ -1,6 +1,6 @@
 -- What each tree is that is read: names are names, numbers are in their ranges, and expressions are not too deep.
 -- Read against: `1 + 2` has depth 2, `(1)` and `fault(100)` have depth 1, `not(has(s, 1))` has depth 3.
-use Rattle.std.specs.Prelude.{ℕ, suc, ◌==◌, ◌≡◌, ◌&&◌, Bool, true, false, List, nat_le, max}
+use Rattle.std.specs.Prelude.{ℕ, suc, ◌==◌, ◌≡◌, ◌&&◌, Bool, true, nat_le, max}
 use Rattle.std.specs.List.{list_all}
 use Rattle.re_terms.specs.Arithmetic.{is_word_number}
 use Rattle.re_terms.specs.Listed.{Listed}
