@@ -1,2 +1,3 @@
+pub mod Conjunctions
 pub mod NameTables
 pub mod Operands

@@ -5,11 +5,8 @@ use Rattle.re_terms.specs.Trees.{is_expr, expr_step, is_name_text, raw_depth, de
 use Rattle.re_terms.specs.declared.expr.Op.{Op}
 use Rattle.re_terms.specs.declared.raw_expr.RawExpr.{RawExpr, fold-roll-RawExpr}
 use Rattle.re_terms.specs.declared.raw_expr.RawExpr.TheVariants as raw
+use Rattle.re_types.proofs.Conjunctions.{both, all_three}
 use Rattle.re_types.specs.Resolving.{is_known, knows_expr, knows_step}
-
-pub both : {a b : Bool} → (a && b) ≡ true → (a ≡ true) × (b ≡ true)
-both {a = true} {b = b} h = (refl, h)
-both {a = false} {b = b} h = absurd (cc)
 
 -- an operand: each name in it is declared, its names and numbers are in their ranges, and it is less deep than the whole
 pub record IsOperand (names : List (List ℕ)) (whole operand : RawExpr) : Type 0 where
@@ -57,11 +54,6 @@ of_has names e set a is k r =
     let ranged = both {a = is_name_text set} {b = is_expr a} (sym (ap is_expr is ∙ is_expr-Has set a) ∙ r) in
     let deeper = ap raw_depth is ∙ raw_depth-Has set a in
     (known.0, record { known = known.1; ranged = ranged.1; smaller = omega (arith, deeper) })
-
-all_three : (x y z : Bool) → (x && y && z) ≡ true → (x ≡ true) × (y ≡ true) × (z ≡ true)
-all_three true true z h = (refl, refl, h)
-all_three true false z h = absurd (cc)
-all_three false y z h = absurd (cc)
 
 pub of_if : (names : List (List ℕ)) (e c a b : RawExpr) → e ≡ raw.If c a b → knows_expr names e ≡ true → is_expr e ≡ true → IsOperand names e c × IsOperand names e a × IsOperand names e b
 of_if names e c a b is k r =

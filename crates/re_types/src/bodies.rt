@@ -1,9 +1,9 @@
 //! What declarations declare, over ids.
 ghost use Rattle.std.specs.Prelude.{◌≡◌, true, count_by, IfOk, IfSome, Some};
 ghost use Rattle.re_terms.specs.Kinds.{is_symbol_sort};
-ghost use Rattle.re_terms.specs.Trees.{is_body};
+ghost use Rattle.re_terms.specs.Trees.{is_literal, is_region, is_whole_expr, is_body};
 ghost use Rattle.re_terms.specs.Programs.{is_ranged};
-ghost use Rattle.re_types.specs.Resolving.{knows_body, resolved_body};
+ghost use Rattle.re_types.specs.Resolving.{is_known, knows_literal, knows_expr, knows_body, resolved_body};
 ghost use Rattle.re_types.specs.Scopes.{IsScope};
 
 use crate::scope::Scope;
@@ -13,12 +13,12 @@ use std::alloc::{AllocError, Global};
 impl Scope<'_> {
     fn signal(&self, alloc: Global, raw: &RawExpr) -> Result<Option<Body>, AllocError>
         requires scope { IsScope self.now }
-        requires known { knows_body self.now.names (RawBody.Signal raw.now) ≡ true }
-        requires raw { is_body (RawBody.Signal raw.now) ≡ true }
+        requires known { knows_expr self.now.names raw.now ≡ true }
+        requires raw { is_whole_expr raw.now ≡ true }
         ensures body { IfOk result (λ b. b ≡ resolved_body self.now (RawBody.Signal raw.now)) }
         ensures ranged { IfOk result (λ b. IfSome b (λ body. is_ranged (count_by is_symbol_sort self.now.sorts) body ≡ true)) }
     {
-        let expr = self.expr(alloc, raw)?;
+        let expr = self.whole_expr(alloc, raw)?;
         match self.one_kind(None, None, &expr) {
             Some(kind) => Ok(Some(Body::Signal { kind, expr })),
             None => Ok(None),
@@ -27,13 +27,14 @@ impl Scope<'_> {
 
     fn mapped(&self, alloc: Global, source: &Text, raw: &RawExpr) -> Result<Option<Body>, AllocError>
         requires scope { IsScope self.now }
-        requires known { knows_body self.now.names (RawBody.Map source.now raw.now) ≡ true }
-        requires raw { is_body (RawBody.Map source.now raw.now) ≡ true }
+        requires source { is_known self.now.names source.now ≡ true }
+        requires known { knows_expr self.now.names raw.now ≡ true }
+        requires raw { is_whole_expr raw.now ≡ true }
         ensures body { IfOk result (λ b. b ≡ resolved_body self.now (RawBody.Map source.now raw.now)) }
         ensures ranged { IfOk result (λ b. IfSome b (λ body. is_ranged (count_by is_symbol_sort self.now.sorts) body ≡ true)) }
     {
         let source = self.id(source);
-        let expr = self.expr(alloc, raw)?;
+        let expr = self.whole_expr(alloc, raw)?;
         let Some(arg) = self.event_kind(source) else {
             return Ok(None);
         };
@@ -45,13 +46,14 @@ impl Scope<'_> {
 
     fn filtered(&self, alloc: Global, source: &Text, raw: &RawExpr) -> Result<Body, AllocError>
         requires scope { IsScope self.now }
-        requires known { knows_body self.now.names (RawBody.Filter source.now raw.now) ≡ true }
-        requires raw { is_body (RawBody.Filter source.now raw.now) ≡ true }
+        requires source { is_known self.now.names source.now ≡ true }
+        requires known { knows_expr self.now.names raw.now ≡ true }
+        requires raw { is_whole_expr raw.now ≡ true }
         ensures body { IfOk result (λ b. resolved_body self.now (RawBody.Filter source.now raw.now) ≡ Some b) }
         ensures ranged { IfOk result (λ b. is_ranged (count_by is_symbol_sort self.now.sorts) b ≡ true) }
     {
         let source = self.id(source);
-        let expr = self.expr(alloc, raw)?;
+        let expr = self.whole_expr(alloc, raw)?;
         Ok(Body::Filter { source, expr })
     }
 
@@ -65,8 +67,12 @@ impl Scope<'_> {
         region: u8,
     ) -> Result<Option<Body>, AllocError>
         requires scope { IsScope self.now }
-        requires known { knows_body self.now.names (RawBody.Fold kind start.now source.now raw.now region) ≡ true }
-        requires raw { is_body (RawBody.Fold kind start.now source.now raw.now region) ≡ true }
+        requires start { knows_literal self.now.names start.now ≡ true }
+        requires literal { is_literal start.now ≡ true }
+        requires source { is_known self.now.names source.now ≡ true }
+        requires known { knows_expr self.now.names raw.now ≡ true }
+        requires raw { is_whole_expr raw.now ≡ true }
+        requires region { is_region region ≡ true }
         ensures body { IfOk result (λ b. b ≡ resolved_body self.now (RawBody.Fold kind start.now source.now raw.now region)) }
         ensures ranged { IfOk result (λ b. IfSome b (λ body. is_ranged (count_by is_symbol_sort self.now.sorts) body ≡ true)) }
     {
@@ -74,7 +80,7 @@ impl Scope<'_> {
             return Ok(None);
         };
         let source = self.id(source);
-        let expr = self.expr(alloc, raw)?;
+        let expr = self.whole_expr(alloc, raw)?;
         Ok(Some(Body::Fold {
             kind,
             start,

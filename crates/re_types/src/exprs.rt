@@ -1,8 +1,8 @@
 //! Expressions over names become expressions over ids.
 ghost use Rattle.std.specs.Prelude.{◌≡◌, true, slice_get, count_by, IfOk, IfSome, Some};
 ghost use Rattle.re_terms.specs.Kinds.{is_symbol_sort};
-ghost use Rattle.re_terms.specs.Trees.{is_literal, is_expr, raw_depth};
-ghost use Rattle.re_terms.specs.Programs.{is_literal_word, has_literals, expr_depth};
+ghost use Rattle.re_terms.specs.Trees.{is_literal, is_expr, is_whole_expr, raw_depth};
+ghost use Rattle.re_terms.specs.Programs.{is_literal_word, has_literals, expr_depth, is_ranged_expr};
 ghost use Rattle.re_types.specs.Resolving.{knows_literal, knows_expr, start_word, name_expr, literal_expr, resolved_expr};
 ghost use Rattle.re_types.specs.Scopes.{IsScope};
 
@@ -57,7 +57,7 @@ impl Scope<'_> {
 
     /// The expression over ids that this one means. The one refusal is want of memory.
     #[cycle(expr)]
-    pub fn expr(&self, alloc: Global, raw: &RawExpr) -> Result<Expr, AllocError>
+    fn expr(&self, alloc: Global, raw: &RawExpr) -> Result<Expr, AllocError>
         requires scope { IsScope self.now }
         requires known { knows_expr self.now.names raw.now ≡ true }
         requires raw { is_expr raw.now ≡ true }
@@ -91,6 +91,17 @@ impl Scope<'_> {
                 element: self.boxed(alloc, element)?,
             }),
         }
+    }
+
+    /// The same for the whole expression of a declaration.
+    pub fn whole_expr(&self, alloc: Global, raw: &RawExpr) -> Result<Expr, AllocError>
+        requires scope { IsScope self.now }
+        requires known { knows_expr self.now.names raw.now ≡ true }
+        requires raw { is_whole_expr raw.now ≡ true }
+        ensures expr { IfOk result (λ e. resolved_expr self.now raw.now ≡ Some e) }
+        ensures ranged { IfOk result (λ e. is_ranged_expr (count_by is_symbol_sort self.now.sorts) e ≡ true) }
+    {
+        self.expr(alloc, raw)
     }
 
     #[cycle(expr)]

@@ -8,6 +8,7 @@ mod kinds;
 mod knowing;
 mod names;
 mod resolving;
+mod room;
 mod scope;
 mod sort;
 
