@@ -1,3 +1,6 @@
 pub mod Conjunctions
+pub mod Declaring
 pub mod NameTables
 pub mod Operands
+pub mod Outcomes
+pub mod Remaining

@@ -1,6 +1,6 @@
 //! The kind rules.
-ghost use Rattle.std.specs.Prelude.{◌≡◌, option_map, IfSome};
-ghost use Rattle.re_terms.specs.Kinds.{common_kind, word_kind, operand_kind, result_kind, taking, operator_kind, expr_kind, is_of_kind, agrees_with, is_start, only_if, is_symbol_sort, sort_of};
+ghost use Rattle.std.specs.Prelude.{◌≡◌, ℕ, count_by, option_map, IfSome};
+ghost use Rattle.re_terms.specs.Kinds.{Symbol, common_kind, word_kind, operand_kind, result_kind, taking, operator_kind, expr_kind, is_of_kind, agrees_with, is_start, only_if, is_symbol_sort, sort_of};
 ghost use Rattle.re_terms.specs.Programs.{is_symbol_body};
 ghost use Rattle.re_types.specs.Resolving.{one_kind};
 ghost use Rattle.re_types.specs.Scopes.{plain_sort};
@@ -202,6 +202,7 @@ impl Scope<'_> {
     pub fn sort_of(&self, body: &Body) -> Option<Sort>
         ensures sort { option_map plain_sort result ≡ sort_of self.now.sorts body.now }
         ensures symbol { IfSome result (λ s. is_symbol_sort (plain_sort s) ≡ is_symbol_body body.now) }
+        ensures number { IfSome result (λ s. (n : ℕ) → plain_sort s ≡ Symbol n → n ≡ count_by is_symbol_sort self.now.sorts) }
     {
         match body {
             Body::Device => Some(Sort::Device),

@@ -89,7 +89,7 @@ impl<'a> Table<'a> {
         ensures declared { OnOk result (declarations self.old.decls.items decls.now ≡ Ok self.new.decls.items) }
         ensures fault { IfErr result (λ f. f ≢ TypeFault.Memory → declarations self.old.decls.items decls.now ≡ Err f) }
     {
-        for raw in decls {
+        'decls: for raw in decls {
             self.declare(alloc, raw)?;
         }
         Ok(())
