@@ -1,5 +1,5 @@
 -- The declarations that remain to be resolved.
-use Rattle.std.proofs.Common.{◌≡◌, ◌≢◌, Bool, true, ◌&&◌, List, [], ◌∷◌, ◌++◌, Result, Ok, Err, IfOk, IfErr, refl, sym, ap, ◌∙◌}
+use Rattle.std.proofs.Common.{ℕ, suc, ◌≡◌, ◌≢◌, ◌<◌, ◌+◌, true, List, length, drop, get_or, drop-cons, add-one, [], ◌∷◌, ◌++◌, Result, Ok, Err, IfOk, IfErr, refl, sym, ap, ◌∙◌}
 use Rattle.std.specs.List.{list_all}
 use Rattle.re_terms.specs.Trees.{is_declaration}
 use Rattle.re_terms.specs.declared.program.Decl.{Decl}
@@ -33,6 +33,10 @@ remain_fault start all now d rest f r e = sym r.same ∙ ap (λ o. then_others n
 
 pub remain_none : (start : List Decl) (all : List RawDecl) (now : List Decl) → Remain start all now [] → declarations start all ≡ Ok now
 remain_none start all now r = sym r.same
+
+-- the next of them and those behind it
+pub next_left : (decls : List RawDecl) (i : ℕ) (d : RawDecl) → i < length decls → d ≡ get_or decls i d → drop i decls ≡ d ∷ drop (i + 1) decls
+next_left decls i d within is = drop-cons decls i d within ∙ ap (λ x. x ∷ drop (suc i) decls) (sym is) ∙ ap (λ n. d ∷ drop n decls) (sym (add-one i))
 
 -- the answer of a call that gives what it should or a fault that it should, memory aside
 pub answered : (r x : Result Program TypeFault) → IfOk r (λ p. x ≡ Ok p) → IfErr r (λ f. f ≢ fault.Memory → x ≡ Err f) → r ≢ Err fault.Memory → r ≡ x
