@@ -31,6 +31,7 @@ pub record Scope : Type 0 where
   pub names : List (List ℕ)
   pub sorts : List Sort
 
+-- what these declarations declare
 abbrev pub scope_of : List Decl → Scope
 scope_of decls = record { names = names_of decls; sorts = sorts_of decls }
 
@@ -42,11 +43,12 @@ place_of names name = position (bytes_eq name) names
 abbrev pub is_known : List (List ℕ) → Listed ℕ → Bool
 is_known names name = is_some (place_of names name.items)
 
--- each name in it is declared
+-- a literal's name is declared
 abbrev pub knows_literal : List (List ℕ) → RawLit → Bool
 knows_literal names (literal.Name name) = is_known names name
 knows_literal names l = true
 
+-- one case for each form of expression, by what holds of its operands
 abbrev pub knows_step : List (List ℕ) → RawExpr-F Bool → Bool
 knows_step names (Lit l) = knows_literal names l
 knows_step names Arg = true
@@ -59,9 +61,11 @@ knows_step names (Recover tried other) = tried && other
 knows_step names (Size set) = is_known names set
 knows_step names (Has set element) = is_known names set && element
 
+-- each name in the expression is declared
 abbrev pub knows_expr : List (List ℕ) → RawExpr → Bool
 knows_expr names = fold-RawExpr Bool (knows_step names)
 
+-- each name in the body is declared
 abbrev pub knows_body : List (List ℕ) → RawBody → Bool
 knows_body names raw.Device = true
 knows_body names raw.Symbol = true
@@ -77,6 +81,7 @@ knows_body names raw.Counter = true
 knows_body names (raw.Set kind) = true
 knows_body names (raw.Register kind start) = knows_literal names start
 
+-- the number of a symbol
 abbrev pub symbol_of : Option Sort → Option ℕ
 symbol_of (Some (Symbol number)) = Some number
 symbol_of s = None
@@ -95,6 +100,7 @@ abbrev pub name_expr : Option Sort → ℕ → Expr
 name_expr (Some (Symbol number)) id = expr.Lit (word.Sym number)
 name_expr s id = expr.Name id
 
+-- the expression that a literal means: a name is that of any declaration
 abbrev pub literal_expr : Scope → RawLit → Option Expr
 literal_expr scope (literal.Int z) = Some (expr.Lit (word.Int z))
 literal_expr scope (literal.Bool b) = Some (expr.Lit (word.Bool b))
@@ -182,6 +188,7 @@ kinded_body scope r = do
   sort ← sort_of scope.sorts b
   Some b
 
+-- it declares a device
 abbrev pub is_raw_device : RawBody → Bool
 is_raw_device raw.Device = true
 is_raw_device b = false

@@ -11,6 +11,8 @@ mod resolving;
 mod room;
 mod scope;
 mod sort;
+#[cfg(test)]
+mod tests;
 
 pub use fault::TypeFault;
 pub use resolving::resolve;
