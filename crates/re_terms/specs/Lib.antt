@@ -1,5 +1,6 @@
 pub mod Arithmetic
 pub mod Kinds
+pub mod Dependencies
 pub mod Layouts
 pub mod Listed
 pub mod Meaning
