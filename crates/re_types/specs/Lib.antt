@@ -1,1 +1,4 @@
+pub mod Capitals
 pub mod Resolving
+pub mod Scopes
+pub mod Tables

@@ -31,6 +31,7 @@ pub record Scope : Type 0 where
   pub names : List (List ℕ)
   pub sorts : List Sort
 
+-- what these declarations declare
 abbrev pub scope_of : List Decl → Scope
 scope_of decls = record { names = names_of decls; sorts = sorts_of decls }
 
@@ -42,11 +43,12 @@ place_of names name = position (bytes_eq name) names
 abbrev pub is_known : List (List ℕ) → Listed ℕ → Bool
 is_known names name = is_some (place_of names name.items)
 
--- each name in it is declared
+-- a literal's name is declared
 abbrev pub knows_literal : List (List ℕ) → RawLit → Bool
 knows_literal names (literal.Name name) = is_known names name
 knows_literal names l = true
 
+-- one case for each form of expression, by what holds of its operands
 abbrev pub knows_step : List (List ℕ) → RawExpr-F Bool → Bool
 knows_step names (Lit l) = knows_literal names l
 knows_step names Arg = true
@@ -59,9 +61,11 @@ knows_step names (Recover tried other) = tried && other
 knows_step names (Size set) = is_known names set
 knows_step names (Has set element) = is_known names set && element
 
+-- each name in the expression is declared
 abbrev pub knows_expr : List (List ℕ) → RawExpr → Bool
 knows_expr names = fold-RawExpr Bool (knows_step names)
 
+-- each name in the body is declared
 abbrev pub knows_body : List (List ℕ) → RawBody → Bool
 knows_body names raw.Device = true
 knows_body names raw.Symbol = true
@@ -77,6 +81,7 @@ knows_body names raw.Counter = true
 knows_body names (raw.Set kind) = true
 knows_body names (raw.Register kind start) = knows_literal names start
 
+-- the number of a symbol
 abbrev pub symbol_of : Option Sort → Option ℕ
 symbol_of (Some (Symbol number)) = Some number
 symbol_of s = None
@@ -95,6 +100,7 @@ abbrev pub name_expr : Option Sort → ℕ → Expr
 name_expr (Some (Symbol number)) id = expr.Lit (word.Sym number)
 name_expr s id = expr.Name id
 
+-- the expression that a literal means: a name is that of any declaration
 abbrev pub literal_expr : Scope → RawLit → Option Expr
 literal_expr scope (literal.Int z) = Some (expr.Lit (word.Int z))
 literal_expr scope (literal.Bool b) = Some (expr.Lit (word.Bool b))
@@ -182,6 +188,7 @@ kinded_body scope r = do
   sort ← sort_of scope.sorts b
   Some b
 
+-- it declares a device
 abbrev pub is_raw_device : RawBody → Bool
 is_raw_device raw.Device = true
 is_raw_device b = false
@@ -199,45 +206,36 @@ is_raw_replicated (raw.Set kind) = true
 is_raw_replicated (raw.Register kind start) = true
 is_raw_replicated b = false
 
--- behind these declarations it passes no limit: 512 declarations, 16 devices, 256 vars and folds, 32 replicated cells
+-- behind so many declarations, devices, vars and folds, and replicated cells, it passes no limit
+abbrev pub has_room_behind : ℕ → ℕ → ℕ → ℕ → RawBody → Bool
+has_room_behind declarations devices cells replicated b = nat_lt declarations 512
+    && (not (is_raw_device b) || nat_lt devices 16)
+    && (not (is_raw_cell b) || nat_lt cells 256)
+    && (not (is_raw_replicated b) || nat_lt replicated 32)
+
+-- behind these declarations it passes no limit
 abbrev pub has_room : List Decl → RawBody → Bool
-has_room earlier b = nat_lt (length earlier) 512
-    && (not (is_raw_device b) || nat_lt (count_by is_device earlier) 16)
-    && (not (is_raw_cell b) || nat_lt (count_by is_cell earlier) 256)
-    && (not (is_raw_replicated b) || nat_lt (count_by is_replicated earlier) 32)
+has_room earlier b = has_room_behind (length earlier) (count_by is_device earlier) (count_by is_cell earlier) (count_by is_replicated earlier) b
 
--- the faults of a declaration
-pub data DeclarationFault : Type 0 where
-  TooMany : DeclarationFault
-  Twice : DeclarationFault
-  Unknown : DeclarationFault
-  WrongKind : DeclarationFault
+-- the declaration with this body, where there is one, or the fault of the one at this place
+abbrev pub kinded : ℕ → Listed ℕ → Option Body → Result Decl TypeFault
+kinded place name (Some b) = Ok (record { name = name; body = b })
+kinded place name None = Err (fault.Kind place)
 
-abbrev pub kinded : Listed ℕ → Option Body → Result Decl DeclarationFault
-kinded name (Some b) = Ok (record { name = name; body = b })
-kinded name None = Err WrongKind
-
--- what a declaration means behind earlier ones, or its first fault in the order of the lines
-abbrev pub declared : List Decl → RawDecl → Result Decl DeclarationFault
+-- what a declaration means behind earlier ones, or its first fault in the order of the lines; its place is how many there are
+abbrev pub declared : List Decl → RawDecl → Result Decl TypeFault
 declared earlier d =
-    if not (has_room earlier d.body) then Err TooMany
-    else if is_known (names_of earlier) d.name then Err Twice
-    else if not (knows_body (names_of earlier) d.body) then Err Unknown
-    else kinded d.name (kinded_body (scope_of earlier) d.body)
+    if not (has_room earlier d.body) then Err (fault.TooMany (length earlier))
+    else if is_known (names_of earlier) d.name then Err (fault.Twice (length earlier))
+    else if not (knows_body (names_of earlier) d.body) then Err (fault.Unknown (length earlier))
+    else kinded (length earlier) d.name (kinded_body (scope_of earlier) d.body)
 
--- the fault of the declaration at this place
-abbrev pub fault_at : ℕ → DeclarationFault → TypeFault
-fault_at place TooMany = fault.TooMany place
-fault_at place Twice = fault.Twice place
-fault_at place Unknown = fault.Unknown place
-fault_at place WrongKind = fault.Kind place
-
--- the fault of the next declaration, or what comes of the others behind it
-abbrev pub then_others : List Decl → Result Decl DeclarationFault → (List Decl → Result (List Decl) TypeFault) → Result (List Decl) TypeFault
+-- a fault, or what comes of the other declarations behind this one
+abbrev pub then_others : List Decl → Result Decl TypeFault → (List Decl → Result (List Decl) TypeFault) → Result (List Decl) TypeFault
 then_others earlier (Ok d) others = others (earlier ++ d ∷ [])
-then_others earlier (Err f) others = Err (fault_at (length earlier) f)
+then_others earlier (Err f) others = Err f
 
--- the earlier declarations and these, each meant behind those before it, or the fault of the first faulty one
+-- the earlier declarations and what these mean, each behind those before it, or the fault of the first faulty one
 abbrev pub declarations : List Decl → List RawDecl → Result (List Decl) TypeFault
 declarations earlier [] = Ok earlier
 declarations earlier (d ∷ decls) = then_others earlier (declared earlier d) (λ next. declarations next decls)
