@@ -1,7 +1,7 @@
 -- One declaration more keeps what the declarations of a program have.
-use Rattle.std.proofs.Common.{ℕ, zero, suc, ◌≡◌, ◌≢◌, ◌<◌, ◌≤◌, ◌+◌, ◌-◌, ◌⊎◌, inl, inr, Bool, true, false, cond, if◌then◌else◌, List, [], ◌∷◌, ◌++◌, length, map, take, get_or, Option, Some, None, is_some, unwrap_or, AllPairs, refl, sym, ap, subst, ◌∙◌, zero-add, arith}
-use Rattle.std.specs.Prelude.{slice_get, count_by, fold, position}
-use Rattle.std.specs.List.{list_all, list_any}
+use Rattle.std.proofs.Common.{ℕ, zero, suc, ◌≡◌, ◌≢◌, ◌<◌, ◌≤◌, ◌+◌, ◌-◌, ◌⊎◌, inl, inr, Bool, true, cond, if◌then◌else◌, List, [], ◌∷◌, ◌++◌, length, take, get_or, Some, None, is_some, unwrap_or, refl, sym, ap, subst, ◌∙◌, zero-add, arith}
+use Rattle.std.specs.Prelude.{slice_get, count_by}
+use Rattle.std.specs.List.{list_all}
 use Rattle.std.specs.Str.{bytes_eq}
 use Rattle.std.proofs.Math.Seq.{take-append_seam}
 use Rattle.std.proofs.lemmas.List.{length-append, length-map, map-append, take-append-le}
@@ -32,8 +32,8 @@ slice_get-push (z ∷ xs) x (suc i) y e = elim (slice_get-push xs x i y e) [ inl
 each-push : (P : List Decl → Decl → Type 0) (xs : List Decl) (x : Decl) → ((i : ℕ) (d : Decl) → slice_get xs i ≡ Some d → P (take i xs) d) → P xs x → (i : ℕ) (d : Decl) → slice_get (xs ++ x ∷ []) i ≡ Some d → P (take i (xs ++ x ∷ [])) d
 each-push P xs x before last i d e =
     elim (slice_get-push xs x i d e) [
-      inl h ↦ subst (λ l. P l d) (sym (take-append-le i xs (x ∷ []) (let within = slice_get_within xs i d h in omega arith))) (before i d h)
-    | inr h ↦ subst (λ l. P l d) (sym (ap (λ n. take n (xs ++ x ∷ [])) h.0 ∙ take-append_seam xs (x ∷ []))) (subst (λ y. P xs y) h.1 last)
+      | inl h ↦ subst (λ l. P l d) (sym (take-append-le i xs (x ∷ []) (let within = slice_get_within xs i d h in omega arith))) (before i d h)
+      | inr h ↦ subst (λ l. P l d) (sym (ap (λ n. take n (xs ++ x ∷ [])) h.0 ∙ take-append_seam xs (x ∷ []))) (subst (λ y. P xs y) h.1 last)
     ]
 
 count_by-push : {A : Type 0} (p : A → Bool) (xs : List A) (x : A) → count_by p (xs ++ x ∷ []) ≡ count_by p xs + (if p x then 1 else 0)
@@ -58,10 +58,10 @@ pub record Follows (earlier : List Decl) (d : Decl) (s : Sort) : Type 0 where
   pub symbol : is_symbol_sort s ≡ is_symbol d
   pub number : (n : ℕ) → s ≡ Symbol n → n ≡ count_by is_symbol_sort (sorts_of earlier)
 
-pub names_of-push : (xs : List Decl) (x : Decl) → names_of (xs ++ x ∷ []) ≡ names_of xs ++ x.name.items ∷ []
+names_of-push : (xs : List Decl) (x : Decl) → names_of (xs ++ x ∷ []) ≡ names_of xs ++ x.name.items ∷ []
 names_of-push xs x = map-append (λ (d : Decl). d.name.items) xs (x ∷ [])
 
-pub sorts_of-push : (xs : List Decl) (x : Decl) (s : Sort) → sort_of (sorts_of xs) x.body ≡ Some s → sorts_of (xs ++ x ∷ []) ≡ sorts_of xs ++ s ∷ []
+sorts_of-push : (xs : List Decl) (x : Decl) (s : Sort) → sort_of (sorts_of xs) x.body ≡ Some s → sorts_of (xs ++ x ∷ []) ≡ sorts_of xs ++ s ∷ []
 sorts_of-push xs x s e = fold-append with_sort [] xs (x ∷ []) ∙ ap (λ o. sorts_of xs ++ unwrap_or o Device ∷ []) e
 
 -- a new name is none of the others
@@ -80,17 +80,17 @@ numbered : (sorts : List Sort) (s : Sort) → ((id n : ℕ) → slice_get sorts 
 numbered sorts s before last id n e =
     let more = count_by-push is_symbol_sort sorts s in
     elim (slice_get-push sorts s id (Symbol n) e) [
-      inl h ↦ (let below = before id n h in omega (arith, more, below))
-    | inr h ↦ (let own = last n h.1 in let one = own_count s n h.1 in omega (arith, more, own, one))
+      | inl h ↦ (let below = before id n h in omega (arith, more, below))
+      | inr h ↦ (let own = last n h.1 in let one = own_count s n h.1 in omega (arith, more, own, one))
     ]
 
-pub scope-push : (xs : List Decl) (x : Decl) (s : Sort) → Follows xs x s → IsScope (scope_of xs) → IsScope (scope_of (xs ++ x ∷ []))
+scope-push : (xs : List Decl) (x : Decl) (s : Sort) → Follows xs x s → IsScope (scope_of xs) → IsScope (scope_of (xs ++ x ∷ []))
 scope-push xs x s f scope = record {
   few = (let names = length-map (xs ++ x ∷ []) (λ (d : Decl). d.name.items) in let n = length-push xs x in omega (arith, names, n, f.few));
   below = (λ id n. rw (sorts_of-push xs x s f.sort) (numbered (sorts_of xs) s scope.below f.number id n));
 }
 
-pub declarations-push : (xs : List Decl) (x : Decl) (s : Sort) → AreDeclarations xs → Follows xs x s → AreDeclarations (xs ++ x ∷ [])
+declarations-push : (xs : List Decl) (x : Decl) (s : Sort) → AreDeclarations xs → Follows xs x s → AreDeclarations (xs ++ x ∷ [])
 declarations-push xs x s a f = record {
   few = (let n = length-push xs x in omega (arith, n, f.few));
   cells = (let n = count_by-push is_cell xs x in omega (arith, n, f.cells));
@@ -101,42 +101,17 @@ declarations-push xs x s a f = record {
   kinds = each-push (λ earlier d. keeps_kinds earlier d.body ≡ true) xs x a.kinds (ap is_some f.sort);
   ranges = each-push (λ earlier d. is_ranged (count_by is_symbol earlier) d.body ≡ true) xs x a.ranges f.ranges;
   symbols = ap (count_by is_symbol_sort) (sorts_of-push xs x s f.sort) ∙ count_by-push is_symbol_sort (sorts_of xs) s
-    ∙ ap (λ n. n + (if is_symbol_sort s then 1 else 0)) a.symbols ∙ ap (λ b. count_by is_symbol xs + (if b then 1 else 0)) f.symbol
-    ∙ sym (count_by-push is_symbol xs x);
+      ∙ ap (λ n. n + (if is_symbol_sort s then 1 else 0)) a.symbols ∙ ap (λ b. count_by is_symbol xs + (if b then 1 else 0)) f.symbol
+      ∙ sym (count_by-push is_symbol xs x);
   scope = scope-push xs x s f a.scope;
 }
 
--- what the names of no declarations stand for
-pub no_declarations : AreDeclarations []
-no_declarations = record {
-  few = omega arith;
-  cells = omega arith;
-  replicated = omega arith;
-  devices = omega arith;
-  names = refl;
-  distinct = λ i j d below within. absurd (omega arith);
-  kinds = λ id d e. absurd (cc);
-  ranges = λ id d e. absurd (cc);
-  symbols = refl;
-  scope = record { few = omega arith; below = λ id n e. absurd (cc) };
-}
-
+-- the scope with one declaration more
 scope_of-push : (xs : List Decl) (x : Decl) (s : Sort) → sort_of (sorts_of xs) x.body ≡ Some s → scope_of (xs ++ x ∷ []) ≡ record { names = names_of xs ++ x.name.items ∷ []; sorts = sorts_of xs ++ s ∷ [] }
 scope_of-push xs x s e =
     let with_names : List (List ℕ) → Scope = λ names. record { names = names; sorts = sorts_of (xs ++ x ∷ []) } in
     let with_sorts : List Sort → Scope = λ sorts. record { names = names_of xs ++ x.name.items ∷ []; sorts = sorts } in
     ap with_names (names_of-push xs x) ∙ ap with_sorts (sorts_of-push xs x s e)
-
--- as many sorts as declarations
-fold-length : (sorts : List Sort) (decls : List Decl) → length (fold with_sort sorts decls) ≡ length sorts + length decls
-fold-length sorts [] = omega arith
-fold-length sorts (d ∷ decls) =
-    let rest = fold-length (with_sort sorts d) decls in
-    let one = length-push sorts (unwrap_or (sort_of sorts d.body) Device) in
-    omega (arith, rest, one)
-
-pub sorts_of-length : (decls : List Decl) → length (sorts_of decls) ≡ length decls
-sorts_of-length decls = fold-length [] decls ∙ zero-add (length decls)
 
 -- the table that stands for one declaration more
 pub table-push : (old new : Table) (d : Decl) (s : Sort) → IsTable old → Follows old.decls.items d s

@@ -1,5 +1,5 @@
 -- What holds of an expression holds of its operands.
-use Rattle.std.proofs.Common.{ℕ, suc, ◌≡◌, ◌<◌, max, Bool, true, false, ◌&&◌, List, sym, ap, ◌∙◌, refl, arith}
+use Rattle.std.proofs.Common.{ℕ, suc, ◌≡◌, ◌<◌, max, Bool, true, ◌&&◌, List, sym, ap, ◌∙◌, arith}
 use Rattle.re_terms.specs.Listed.{Listed}
 use Rattle.re_terms.specs.Trees.{is_expr, expr_step, is_name_text, raw_depth, depth_step}
 use Rattle.re_terms.specs.declared.expr.Op.{Op}

@@ -1,24 +1,19 @@
 -- What comes of a declaration, case by case.
-use Rattle.std.proofs.Common.{ℕ, ◌≡◌, ◌≢◌, ◌<◌, ◌≤◌, ◌+◌, Bool, true, false, not, ◌&&◌, ◌||◌, cond, if◌then◌else◌, List, [], ◌∷◌, ◌++◌, length, Option, Some, None, Result, Ok, Err, IfOk, IfErr, refl, sym, ap, subst, ◌∙◌, arith}
+use Rattle.std.proofs.Common.{ℕ, ◌≡◌, ◌<◌, ◌≤◌, ◌+◌, Bool, true, false, not, ◌||◌, if◌then◌else◌, length, Option, Some, None, Ok, Err, refl, ap, subst, ◌∙◌, arith}
 use Rattle.std.specs.Prelude.{option_and_then, option_map, nat_lt, is_some, count_by}
 use Rattle.std.proofs.lemmas.Bool.{ltb-true}
 use Rattle.re_terms.specs.Signal.{is_cell, is_cell_body}
 use Rattle.re_terms.specs.Kinds.{Sort, Symbol, is_symbol_sort, event_kind, expr_kind, in_signal, at_event, sort_of}
 use Rattle.re_terms.specs.Programs.{is_device, is_device_body, is_replicated, is_replicated_body, is_symbol_body, names_of, is_ranged}
 use Rattle.re_terms.specs.Trees.{is_name_text, is_body, is_declaration}
-use Rattle.re_terms.specs.declared.word.Kind.{Kind}
-use Rattle.re_terms.specs.declared.word.Word.{Word}
-use Rattle.re_terms.specs.declared.expr.Expr.{Expr}
 use Rattle.re_terms.specs.declared.program.Body.{Body}
 use Rattle.re_terms.specs.declared.program.Body.TheVariants as body
 use Rattle.re_terms.specs.declared.program.Decl.{Decl}
-use Rattle.re_terms.specs.declared.program.Program.{Program}
 use Rattle.re_terms.specs.declared.raw.RawBody.{RawBody}
 use Rattle.re_terms.specs.declared.raw.RawBody.TheVariants as raw
 use Rattle.re_terms.specs.declared.raw.RawDecl.{RawDecl}
-use Rattle.re_types.specs.declared.fault.TypeFault.{TypeFault}
 use Rattle.re_types.specs.declared.fault.TypeFault.TheVariants as fault
-use Rattle.re_types.specs.Resolving.{Scope, scope_of, place_of, is_known, knows_body, start_word, resolved_expr, one_kind, resolved_body, kinded_body, kinded, is_raw_device, is_raw_cell, is_raw_replicated, has_room, has_room_behind, declared, declarations, then_others}
+use Rattle.re_types.specs.Resolving.{Scope, scope_of, place_of, is_known, knows_body, start_word, resolved_expr, one_kind, resolved_body, kinded_body, kinded, is_raw_device, is_raw_cell, is_raw_replicated, has_room, has_room_behind, declared, declarations}
 use Rattle.re_types.specs.Tables.{IsTable}
 use Rattle.re_types.specs.declared.resolving.Table.{Table}
 use Rattle.re_types.proofs.Conjunctions.{both, all_four}

@@ -1,12 +1,10 @@
 -- The declarations that remain to be resolved.
-use Rattle.std.proofs.Common.{ℕ, suc, ◌≡◌, ◌≢◌, ◌<◌, ◌+◌, true, List, length, drop, get_or, drop-cons, add-one, [], ◌∷◌, ◌++◌, Result, Ok, Err, IfOk, IfErr, refl, sym, ap, ◌∙◌}
+use Rattle.std.proofs.Common.{ℕ, suc, ◌≡◌, ◌<◌, ◌+◌, true, List, length, drop, get_or, drop-cons, add-one, [], ◌∷◌, ◌++◌, Result, Ok, Err, sym, ap, ◌∙◌}
 use Rattle.std.specs.List.{list_all}
 use Rattle.re_terms.specs.Trees.{is_declaration}
 use Rattle.re_terms.specs.declared.program.Decl.{Decl}
-use Rattle.re_terms.specs.declared.program.Program.{Program}
 use Rattle.re_terms.specs.declared.raw.RawDecl.{RawDecl}
 use Rattle.re_types.specs.declared.fault.TypeFault.{TypeFault}
-use Rattle.re_types.specs.declared.fault.TypeFault.TheVariants as fault
 use Rattle.re_types.specs.Resolving.{declared, declarations, then_others}
 use Rattle.re_types.proofs.Conjunctions.{both}
 
@@ -14,9 +12,6 @@ use Rattle.re_types.proofs.Conjunctions.{both}
 pub record Remain (start : List Decl) (all : List RawDecl) (now : List Decl) (rest : List RawDecl) : Type 0 where
   pub same : declarations now rest ≡ declarations start all
   pub raw : list_all is_declaration rest ≡ true
-
-pub remain_all : (start : List Decl) (all : List RawDecl) → list_all is_declaration all ≡ true → Remain start all start all
-remain_all start all raw = record { same = refl; raw = raw }
 
 next_of : (now : List Decl) (o : Result Decl TypeFault) (next : List Decl) (others : List Decl → Result (List Decl) TypeFault) → then_others now o Ok ≡ Ok next → then_others now o others ≡ others next
 next_of now (Ok d) next others e = let same : now ++ d ∷ [] ≡ next = cc in ap others same
@@ -28,17 +23,6 @@ remain_next start all now next d rest r e = record {
   raw = (both {a = is_declaration d} {b = list_all is_declaration rest} r.raw).1;
 }
 
-pub remain_fault : (start : List Decl) (all : List RawDecl) (now : List Decl) (d : RawDecl) (rest : List RawDecl) (f : TypeFault) → Remain start all now (d ∷ rest) → declared now d ≡ Err f → declarations start all ≡ Err f
-remain_fault start all now d rest f r e = sym r.same ∙ ap (λ o. then_others now o (λ n. declarations n rest)) e
-
-pub remain_none : (start : List Decl) (all : List RawDecl) (now : List Decl) → Remain start all now [] → declarations start all ≡ Ok now
-remain_none start all now r = sym r.same
-
 -- the next of them and those behind it
 pub next_left : (decls : List RawDecl) (i : ℕ) (d : RawDecl) → i < length decls → d ≡ get_or decls i d → drop i decls ≡ d ∷ drop (i + 1) decls
 next_left decls i d within is = drop-cons decls i d within ∙ ap (λ x. x ∷ drop (suc i) decls) (sym is) ∙ ap (λ n. d ∷ drop n decls) (sym (add-one i))
-
--- the answer of a call that gives what it should or a fault that it should, memory aside
-pub answered : (r x : Result Program TypeFault) → IfOk r (λ p. x ≡ Ok p) → IfErr r (λ f. f ≢ fault.Memory → x ≡ Err f) → r ≢ Err fault.Memory → r ≡ x
-answered (Ok p) x ok err other = sym ok
-answered (Err f) x ok err other = sym (err (λ e. other (ap Err e)))

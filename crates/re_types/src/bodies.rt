@@ -25,7 +25,12 @@ impl Scope<'_> {
         }
     }
 
-    fn mapped(&self, alloc: Global, source: &Text, raw: &RawExpr) -> Result<Option<Body>, AllocError>
+    fn mapped(
+        &self,
+        alloc: Global,
+        source: &Text,
+        raw: &RawExpr,
+    ) -> Result<Option<Body>, AllocError>
         requires scope { IsScope self.now }
         requires source { is_known self.now.names source.now ≡ true }
         requires known { knows_expr self.now.names raw.now ≡ true }

@@ -7,8 +7,11 @@ ghost use Rattle.re_types.specs.Resolving.{has_room_behind, is_raw_device, is_ra
 use re_terms::{Body, RawBody};
 
 const MAX_DECLARATIONS: usize = 512;
+
 const MAX_DEVICES: usize = 16;
+
 const MAX_CELLS: usize = 256;
+
 const MAX_REPLICATED: usize = 32;
 
 /// How many declarations of each sort that has a limit of its own.

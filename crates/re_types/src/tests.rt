@@ -243,9 +243,7 @@ fn body(alloc: Global, word: &[u8], words: &mut Words<'_>) -> Result<RawBody, Fa
         return Ok(RawBody::Counter);
     }
     if word == b"set".as_slice() {
-        return Ok(RawBody::Set {
-            kind: kind(words)?,
-        });
+        return Ok(RawBody::Set { kind: kind(words)? });
     }
     if word == b"event".as_slice() {
         return event(alloc, words);
@@ -305,7 +303,11 @@ fn fault(alloc: Global, text: &[u8]) -> Result<Option<TypeFault>, Fail> {
 fn many(alloc: Global, first: &[u8], count: u16, last: &[u8]) -> Result<Vec<u8>, Fail> {
     let mut text = b"device A".to_vec(alloc)?;
     for i in 0..count {
-        let name = [b'B' + (i / 26 / 26) as u8 % 25, b'A' + (i / 26 % 26) as u8, b'A' + (i % 26) as u8];
+        let name = [
+            b'B' + (i / 26 / 26) as u8 % 25,
+            b'A' + (i / 26 % 26) as u8,
+            b'A' + (i % 26) as u8,
+        ];
         text.push(b' ')?;
         text.extend_from_slice(first)?;
         text.extend_from_slice(&name)?;
@@ -325,13 +327,22 @@ fn the_first_fault_is_named(rt: HostRuntime) -> Result<(), Fail> {
         (b"device A device A", Some(TypeFault::Twice(1))),
         (b"device A signal S + 1 true", Some(TypeFault::Kind(1))),
         (b"device A signal S S", Some(TypeFault::Unknown(1))),
-        (b"device A signal S T var T int 0", Some(TypeFault::Unknown(1))),
+        (
+            b"device A signal S T var T int 0",
+            Some(TypeFault::Unknown(1)),
+        ),
         // of one declaration, the first in the order of the faults
         (b"device A signal A + true T", Some(TypeFault::Twice(1))),
-        (b"device A signal S + + 1 true T", Some(TypeFault::Unknown(1))),
+        (
+            b"device A signal S + + 1 true T",
+            Some(TypeFault::Unknown(1)),
+        ),
         (b"device A fold F int A A T", Some(TypeFault::Unknown(1))),
         // of several, the first in their order
-        (b"symbol B signal S + 1 true signal B T", Some(TypeFault::Kind(1))),
+        (
+            b"symbol B signal S + 1 true signal B T",
+            Some(TypeFault::Kind(1)),
+        ),
     ];
     for (text, wanted) in cases {
         assert_eq!(rt; fault(alloc, text)?, wanted);
@@ -342,7 +353,8 @@ fn the_first_fault_is_named(rt: HostRuntime) -> Result<(), Fail> {
 #[test]
 fn kind_rules_hold(rt: HostRuntime) -> Result<(), Fail> {
     let alloc = rt.alloc();
-    let start = b"device A symbol R var X int 1 var B bool true event E int counter C set M int register Q sym R ";
+    let start =
+        b"device A symbol R var X int 1 var B bool true event E int counter C set M int register Q sym R ";
     let right: [&[u8]; 29] = [
         b"signal S + X C",
         b"signal S / 1 fault",
@@ -425,7 +437,10 @@ fn kind_rules_hold(rt: HostRuntime) -> Result<(), Fail> {
         let mut whole = start.to_vec(alloc)?;
         whole.extend_from_slice(text)?;
         let found = fault(alloc, &whole)?;
-        assert!(rt; matches!(found, Some(TypeFault::Kind(8 | 9))), "in {text:?}: {found:?}");
+        assert!(rt;
+            matches!(found, Some(TypeFault::Kind(8 | 9))),
+            "in {text:?}: {found:?}"
+        );
     }
     Ok(())
 }
@@ -481,7 +496,8 @@ fn has_ids(program: &Program) -> bool {
 #[test]
 fn names_become_ids(rt: HostRuntime) -> Result<(), Fail> {
     let alloc = rt.alloc();
-    let text = b"device A symbol G symbol R signal S = R R event E int event F map E R fold N int 0 F 1";
+    let text =
+        b"device A symbol G symbol R signal S = R R event E int event F map E R fold N int 0 F 1";
     let program = resolve(alloc, tree(alloc, text)?)?;
     assert!(rt; has_ids(&program));
     Ok(())

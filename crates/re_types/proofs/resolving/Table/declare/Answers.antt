@@ -1,14 +1,14 @@
-use Rattle.std.proofs.Common.{ℕ, ◌≡◌, Ok, Err, List, length, Result, sym, ap, ◌∙◌, arith}
+use Rattle.std.proofs.Common.{ℕ, Ok, Err, List, length, Result, sym, ap, ◌∙◌, arith}
 use Rattle.std.specs.Prelude.{option_map}
 use Rattle.re_terms.specs.Trees.{is_name_text, is_body}
-use Rattle.re_terms.specs.Kinds.{is_symbol_sort}
 use Rattle.re_terms.specs.declared.program.Decl.{Decl}
 use Rattle.re_types.specs.Scopes.{plain_sort}
 use Rattle.re_types.specs.Resolving.{Scope, then_others}
 use Rattle.re_types.specs.declared.fault.TypeFault.{TypeFault}
 use Rattle.re_types.specs.declared.fault.TypeFault.TheVariants as fault
 use Rattle.re_types.proofs.Conjunctions.{both}
-use Rattle.re_types.proofs.Declaring.{sorts_of-length, table-push}
+use Rattle.re_types.proofs.Declaring.{table-push}
+use Rattle.re_types.proofs.Sorts.{sorts_of-length}
 use Rattle.re_types.proofs.Outcomes.{few_before, IsNamed, declared-none, declared-some, follows}
 use Rattle.re_types.proofs.resolving.Table.declare.Goals as goal
 
