@@ -1,7 +1,7 @@
 -- Tokens read one behind the other.
 use Rattle.std.proofs.Common.{ℕ, ◌≡◌, ◌≤◌, ◌<◌, ◌+◌, ◌-◌, true, false, List, [], ◌∷◌, ◌++◌, length, Some, None, refl, sym, ap, subst, ◌∙◌, arith, length-append}
 use Rattle.std.specs.List.{list_all}
-use Rattle.re_terms.specs.Listed.{Listed, plain}
+use Rattle.re_terms.specs.Listed.{Listed}
 use Rattle.re_terms.specs.declared.token.Mark.{Mark}
 use Rattle.re_terms.specs.declared.token.Token.{Token}
 use Rattle.re_tokens.specs.TokenGrammar.{Separator, gap_bytes, is_separator, is_in_token, IsMarkAt, IsTokenAt, Begins, end_of, IsTokens, NoTokenAt}

@@ -27,6 +27,9 @@ place_is at text t word behind i =
 same_mark : (here : List ℕ) (m : Mark) (word behind : List ℕ) (n : Mark) (other past : List ℕ) → IsMarkAt here m word behind → IsMarkAt here n other past → ◌≡◌ {A = Mark × List ℕ} (m, behind) (n, past)
 same_mark here m word behind n other past i j = some_same _ _ (sym (first_complete here m word behind i) ∙ first_complete here n other past j)
 
+token_is : (t u : Token) → t.at ≡ u.at → t.mark ≡ u.mark → t ≡ u
+token_is t u a m = ap (λ k. record { at = k; mark = t.mark }) a ∙ ap (λ k. record { at = u.at; mark = k }) m
+
 same_token : (at : ℕ) (text : List ℕ) (t : Token) (word behind : List ℕ) (u : Token) (other past : List ℕ) → IsTokenAt at text t word behind → IsTokenAt at text u other past → Same at t word behind u other past
 same_token at text t word behind u other past i j =
     let here : i.here ≡ j.here = sym (here_is at text t word behind i) ∙ here_is at text u other past j in
@@ -41,7 +44,7 @@ same_token at text t word behind u other past i j =
     let second : length j.here ≡ length other + length past = ap length j.begins.whole ∙ length-append other past in
     let c = ap length b in
     record {
-      same_token = ap (λ x. record { at = x; mark = t.mark }) a ∙ ap (λ m. record { at = u.at; mark = m }) e;
+      same_token = token_is t u a e;
       same_length = omega arith;
       same_behind = b;
     }
