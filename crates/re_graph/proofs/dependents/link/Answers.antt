@@ -1,0 +1,13 @@
+use Rattle.std.proofs.Common.{◌≡◌, ◌<◌, ◌++◌, ◌∷◌, [], length, get_or, arith}
+use Rattle.re_terms.specs.Listed.{plain}
+use Rattle.re_graph.specs.Kept.{is_among, list_at}
+use Rattle.re_graph.proofs.Steps.{link_step}
+use Rattle.re_graph.proofs.dependents.link.Goals as goal
+
+pub loop-input-preserved : goal.loop-input-preserved
+loop-input-preserved c =
+    let lists = c.loop-input.dependents.items in
+    let at = get_or c.args.inputs.now c.loop-input.input-index 0 in
+    let declared : at < length lists = omega (arith, c.requires.declared c.loop-input.input-index 0 c.loop-input-test.true) in
+    let pushed : c.push.new.self.items ≡ list_at lists at ++ c.args.id ∷ [] = ? in
+    (?, λ input other. link_step lists c.push.new.self c.args.inputs.now c.loop-input.input-index c.args.id input other (is_among (list_at c.args.dependents.now.items input) other) c.loop-input-test.true declared pushed (c.loop-input.invariant.1 input other))
