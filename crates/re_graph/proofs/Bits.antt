@@ -1,9 +1,10 @@
 -- Sets of regions, as bits.
-use Rattle.std.proofs.Common.{◌≡◌, ◌<◌, ◌≤◌, ◌+◌, ◌*◌, ◌^◌, ◌%◌, ◌==◌, ◌⊎◌, inl, inr, ℕ, Bool, true, false, ◌||◌, max, refl, sym, ap, ◌∙◌, arith}
+use Rattle.std.proofs.Common.{◌≡◌, ◌<◌, ◌≤◌, ◌+◌, ◌*◌, ◌/◌, ◌^◌, ◌%◌, ◌==◌, ◌⊎◌, inl, inr, ℕ, zero, suc, Bool, true, false, ◌||◌, max, refl, sym, ap, ◌∙◌, arith}
 use Rattle.std.specs.Prelude.{bit_or, bit_and}
 use Rattle.std.specs.Int.{bit_at}
 use Rattle.std.proofs.lemmas.Bool.{cases_eq, eq-eqb, ne_eqb}
-use Rattle.std.proofs.lemmas.Nat.Bits.{bit_at_or, bit_at-lt, bit_at-zero, bit_at-pow_same, bit_at-pow_other}
+use Rattle.std.proofs.lemmas.Nat.Bits.{bit_at_or, bit_at-lt, bit_at-zero, bit_at-pow_same, bit_at-pow_other, shr_and_one}
+use Rattle.std.proofs.Math.Bool.{or_comm}
 use Rattle.re_graph.specs.Kept.{has_bit}
 
 bits_or : (a b : ℕ) → a < 2 → b < 2 → (max a b == 1) ≡ ((a == 1) || (b == 1))
@@ -24,3 +25,27 @@ one_by own region (inr other) = ap (λ n. n == 1) (bit_at-pow_other own region (
 -- the set of one region
 pub has_bit-one : (own region : ℕ) → has_bit (2 ^ own) region ≡ (own == region)
 has_bit-one own region = one_by own region (cases_eq own region)
+
+shifted : (own : ℕ) → own ≤ 4 → 1 * 2 ^ own % 2 ^ 8 ≡ 2 ^ own
+shifted zero low = refl
+shifted (suc zero) low = refl
+shifted (suc (suc zero)) low = refl
+shifted (suc (suc (suc zero))) low = refl
+shifted (suc (suc (suc (suc zero)))) low = refl
+shifted (suc (suc (suc (suc (suc n))))) low = absurd (omega arith)
+
+-- one region joined to a set
+pub has_bit-joined : (bits own region : ℕ) (b : Bool) → own ≤ 4 → has_bit bits region ≡ b → has_bit (bit_or bits (1 * 2 ^ own % 2 ^ 8)) region ≡ ((own == region) || b)
+has_bit-joined bits own region b low is =
+    ap (λ n. has_bit (bit_or bits n) region) (shifted own low)
+    ∙ has_bit-or bits (2 ^ own) region
+    ∙ ap (λ t. has_bit bits region || t) (has_bit-one own region)
+    ∙ or_comm (has_bit bits region) (own == region)
+    ∙ ap (λ t. (own == region) || t) is
+
+-- the bit that is tried
+pub has_bit-tried : (bits region : ℕ) → bit_and (bits / 2 ^ region) 1 ≡ 1 → has_bit bits region ≡ true
+has_bit-tried bits region is = eq-eqb (bit_at bits region) 1 (sym (shr_and_one bits region) ∙ is)
+
+pub has_bit-failed : (bits region : ℕ) → (bit_and (bits / 2 ^ region) 1 ≡ 1 → ⊥) → has_bit bits region ≡ false
+has_bit-failed bits region isnt = ne_eqb (bit_at bits region) 1 (λ e. isnt (shr_and_one bits region ∙ e))

@@ -5,7 +5,7 @@ use Rattle.std.specs.List.{All, AllPairs, list_any, range_with_len}
 use Rattle.std.proofs.lemmas.Bool.{cases_eq, eq-eqb, ne_eqb, lt-ltb, le-ltb}
 use Rattle.std.proofs.lemmas.List.{append-nil, append_assoc}
 use Rattle.std.proofs.lemmas.List.Filters.{length-filter_both}
-use Rattle.std.proofs.lemmas.List.FromFn.{length-range_with_len}
+use Rattle.std.proofs.lemmas.List.FromFn.{length-range_with_len, get_or-range_with_len}
 use Rattle.std.proofs.lemmas.List.Elements.{filter-append, All-nil, All-cons, All-head, All-tail, All-weaker}
 use Rattle.re_terms.specs.Listed.{Listed, plain}
 use Rattle.re_graph.specs.Kept.{is_among}
@@ -92,3 +92,27 @@ is_among-filter p id n =
 
     bound : (nat_le 0 id && nat_lt id (0 + n)) ≡ nat_lt id n
     bound = grind arith
+
+swap_true : (b : Bool) → (b && true) ≡ b
+swap_true true = refl
+swap_true false = refl
+
+-- a test of one number alone
+pub list_any-at : (p : ℕ → Bool) (id n : ℕ) → id < n → list_any (λ x. (x == id) && p x) (range_with_len 0 n) ≡ p id
+list_any-at p id n within =
+    list_any_same (λ x. (x == id) && p x) (λ x. (x == id) && p id) (range_with_len 0 n) (λ k d inside. same (get_or (range_with_len 0 n) k d) (cases_eq (get_or (range_with_len 0 n) k d) id))
+    ∙ list_any-and (λ x. x == id) (p id) (range_with_len 0 n)
+    ∙ ap (λ b. b && p id) (is_among-range id 0 n ∙ bound)
+  where
+    same : (x : ℕ) → (x ≡ id) ⊎ (x ≡ id → ⊥) → ((x == id) && p x) ≡ ((x == id) && p id)
+    same x (inl e) = ap (λ y. (x == id) && p y) e
+    same x (inr other) = ap (λ b. b && p x) (ne_eqb x id other) ∙ ap (λ b. b && p id) (sym (ne_eqb x id other))
+
+    bound : (nat_le 0 id && nat_lt id (0 + n)) ≡ true
+    bound = grind arith
+
+-- all numbers of a range
+pub All-range : (P : ℕ → Type 0) (a n : ℕ) → ((x : ℕ) → a ≤ x → x < a + n → P x) → All P (range_with_len a n)
+All-range P a n holds k d inside =
+    let short : k < n = omega (arith, length-range_with_len a n) in
+    subst P (sym (get_or-range_with_len a n k d short)) (holds (a + k) (omega arith) (omega arith))

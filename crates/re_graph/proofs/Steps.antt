@@ -1,13 +1,13 @@
 -- What one more element does, at a step of each loop.
-use Rattle.std.proofs.Common.{◌≡◌, ◌<◌, ◌≤◌, ◌+◌, ◌==◌, ◌⊎◌, inl, inr, ℕ, Bool, true, false, ◌&&◌, ◌||◌, cond, List, [], ◌∷◌, ◌++◌, map, length, max, take, get_or, refl, sym, ap, ◌∙◌, arith}
-use Rattle.std.specs.Prelude.{bit_or, filter}
+use Rattle.std.proofs.Common.{◌≡◌, ◌<◌, ◌≤◌, ◌+◌, ◌-◌, ◌==◌, ◌⊎◌, inl, inr, ℕ, zero, suc, Bool, true, false, ◌&&◌, ◌||◌, cond, List, [], ◌∷◌, ◌++◌, map, length, max, take, get_or, refl, sym, ap, ◌∙◌, arith}
+use Rattle.std.specs.Prelude.{bit_or, filter, nat_lt}
 use Rattle.std.specs.List.{list_any, range_with_len}
 use Rattle.std.specs.Ordering.{nat_cmp}
 use Rattle.std.specs.BTreeMap.{is_at}
 use Rattle.std.specs.BTreeSet.{BTreeSet, contains}
 use Rattle.std.proofs.Math.ListN.{set}
-use Rattle.std.proofs.lemmas.Bool.{cases_eq, eq-eqb, ne_eqb, cond-true, cond-false}
-use Rattle.std.proofs.lemmas.List.{get_or-set_same, get_or-set_other}
+use Rattle.std.proofs.lemmas.Bool.{cases_eq, eq-eqb, ne_eqb, cond-true, cond-false, ltb-true, ltb-false}
+use Rattle.std.proofs.lemmas.List.{get_or-set_same, get_or-set_other, get_or_append_left, get_or-append_right, get_or_past}
 use Rattle.std.proofs.lemmas.List.Folds.{list_any_more, list_any-append}
 use Rattle.re_terms.specs.Listed.{Listed, plain}
 use Rattle.re_terms.specs.Dependencies.{level_above}
@@ -90,3 +90,20 @@ link_by lists new xs i id input other before within declared pushed so_far (inr 
 -- one input more has the declaration among its dependents
 pub link_step : (lists : List (Listed ℕ)) (new : Listed ℕ) (xs : List ℕ) (i id input other : ℕ) (before : Bool) → i < length xs → get_or xs i 0 < length lists → new.items ≡ list_at lists (get_or xs i 0) ++ id ∷ [] → is_among (list_at lists input) other ≡ (before || ((id == other) && is_among (take i xs) input)) → is_among (list_at (set lists (get_or xs i 0) new) input) other ≡ (before || ((id == other) && is_among (take (i + 1) xs) input))
 link_step lists new xs i id input other before within declared pushed so_far = link_by lists new xs i id input other before within declared pushed so_far (cases_eq input (get_or xs i 0))
+
+list_by : (lists : List (Listed ℕ)) (id : ℕ) (b : Bool) → nat_lt id (length lists) ≡ b → list_at (lists ++ plain [] ∷ []) id ≡ list_at lists id
+list_by lists id true is = ap (λ found. found.items) (get_or_append_left lists (plain [] ∷ []) (plain []) id (ltb-true id (length lists) is))
+list_by lists id false is =
+    let behind : length lists ≤ id = ltb-false id (length lists) is in
+    ap (λ found. found.items) (get_or-append_right lists (plain [] ∷ []) (length lists) id (plain []) refl behind ∙ alone (id - length lists))
+    ∙ sym (ap (λ found. found.items) (get_or_past lists id (plain []) behind))
+  where
+    empty : Listed ℕ
+    empty = plain []
+    alone : (k : ℕ) → get_or (empty ∷ []) k empty ≡ empty
+    alone zero = refl
+    alone (suc k) = refl
+
+-- one empty list more changes no list
+pub list_at-push : (lists : List (Listed ℕ)) (id : ℕ) → list_at (lists ++ plain [] ∷ []) id ≡ list_at lists id
+list_at-push lists id = list_by lists id (nat_lt id (length lists)) refl

@@ -56,7 +56,7 @@ impl Graph {
         let mut levels = Vec::new(alloc);
         let mut regions = Vec::new(alloc);
         let mut dependents = Vec::new(alloc);
-        for (id, decl) in p.decls.as_slice().iter().enumerate() {
+        'building: for (id, decl) in p.decls.as_slice().iter().enumerate() {
             let node = Node::of(alloc, decl)?;
             let inputs = node.inputs.as_slice();
             levels.push(level_above(&levels, inputs))?;

@@ -16,9 +16,14 @@ use Rattle.re_graph.proofs.graph.Graph.reach.Goals as goal
 
 pub reaching-init : goal.reaching-init
 reaching-init c =
-    subst (λ found. (found.spare ≡ 0) × ((next : ℕ) × IsReaching c.args.self.now c.args.touched.now.items c.insert_all.new.pending found.items next)) (sym c.new-reached.ensures)
-        (refl, (0, reach_none c.args.self.now c.args.touched.now.items c.insert_all.new.pending
-            (λ id. c.in_ok-insert_all.ensures id ∙ ap (λ keys. list_any (is_at (nat_cmp id)) keys || is_among c.as_slice.result.now id) c.new-pending.ensures.empty ∙ ap (λ xs. is_among xs id) c.as_slice.ensures)))
+    subst (λ found. (found.spare ≡ 0) × ((next : ℕ) × IsReaching c.args.self.now c.args.touched.now.items c.insert_all.new.pending found.items next)) (sym c.new-reached.ensures) (
+      refl,
+      (
+        0,
+        reach_none c.args.self.now c.args.touched.now.items c.insert_all.new.pending
+            (λ id. c.in_ok-insert_all.ensures id ∙ ap (λ keys. list_any (is_at (nat_cmp id)) keys || is_among c.as_slice.result.now id) c.new-pending.ensures.empty ∙ ap (λ xs. is_among xs id) c.as_slice.ensures),
+      ),
+    )
 
 pub bounds-dependents-id : goal.bounds-dependents-id
 bounds-dependents-id c =
@@ -38,14 +43,14 @@ reaching-preserved c =
     let step = popped graph touched pending c.reaching.reached.items c.reaching.invariant.1.0 k kept.ordered c.requires (inputs_at-none graph) c.reaching.invariant.1.1 first in
     let within : k < length c.as_slice-dependents.result.now = omega (arith, step.within, kept.dependent_count, ap length c.as_slice-dependents.ensures) in
     let item : c.index-dependents-id.result ≡ get_or c.self.inside.dependents.items k (plain []) =
-        c.index-dependents-id.is ∙ get_or_default c.as_slice-dependents.result.now k c.index-dependents-id.result (plain []) within ∙ ap (λ lists. get_or lists k (plain [])) c.as_slice-dependents.ensures in
+    c.index-dependents-id.is ∙ get_or_default c.as_slice-dependents.result.now k c.index-dependents-id.result (plain []) within ∙ ap (λ lists. get_or lists k (plain [])) c.as_slice-dependents.ensures in
     let changed : (id : ℕ) → contains nat_cmp c.insert_all-in-Some.new.pending id ≡ (cond (k == id) false (contains nat_cmp pending id) || is_among (inputs_at graph id) k) = λ id.
-        c.in_ok-insert_all-2.ensures id
-        ∙ ap (λ b. b || is_among c.as_slice-in-Some.result.now id) (c.in-Some.ensures.updates.0 id ∙ ap (λ b. cond b false (contains nat_cmp pending id)) (is_at-key k id))
-        ∙ ap (λ b. cond (k == id) false (contains nat_cmp pending id) || b) (ap (λ xs. is_among xs id) (c.as_slice-in-Some.ensures ∙ ap (λ l. l.items) item) ∙ kept.links k id) in
+    c.in_ok-insert_all-2.ensures id
+    ∙ ap (λ b. b || is_among c.as_slice-in-Some.result.now id) (c.in-Some.ensures.updates.0 id ∙ ap (λ b. cond b false (contains nat_cmp pending id)) (is_at-key k id))
+    ∙ ap (λ b. cond (k == id) false (contains nat_cmp pending id) || b) (ap (λ xs. is_among xs id) (c.as_slice-in-Some.ensures ∙ ap (λ l. l.items) item) ∙ kept.links k id) in
     let next = reach_step graph touched pending c.insert_all-in-Some.new.pending c.reaching.reached.items c.reaching.invariant.1.0 k kept.ordered c.reaching.invariant.1.1 step first changed in
     subst (λ found. (found.spare ≡ 0) × ((place : ℕ) × IsReaching graph touched c.insert_all-in-Some.new.pending found.items place)) (sym c.in_ok-push.ensures.ok)
-        (omega (arith, c.reaching.invariant.0), (k + 1, next))
+    (omega (arith, c.reaching.invariant.0), (k + 1, next))
 
 pub reaching-smaller : goal.reaching-smaller
 reaching-smaller c =
@@ -58,11 +63,11 @@ reaching-smaller c =
     let step = popped graph touched pending c.reaching.reached.items c.reaching.invariant.1.0 k kept.ordered c.requires (inputs_at-none graph) c.reaching.invariant.1.1 first in
     let within : k < length c.as_slice-dependents.result.now = omega (arith, step.within, kept.dependent_count, ap length c.as_slice-dependents.ensures) in
     let item : c.index-dependents-id.result ≡ get_or c.self.inside.dependents.items k (plain []) =
-        c.index-dependents-id.is ∙ get_or_default c.as_slice-dependents.result.now k c.index-dependents-id.result (plain []) within ∙ ap (λ lists. get_or lists k (plain [])) c.as_slice-dependents.ensures in
+    c.index-dependents-id.is ∙ get_or_default c.as_slice-dependents.result.now k c.index-dependents-id.result (plain []) within ∙ ap (λ lists. get_or lists k (plain [])) c.as_slice-dependents.ensures in
     let changed : (id : ℕ) → contains nat_cmp c.insert_all-in-Some.new.pending id ≡ (cond (k == id) false (contains nat_cmp pending id) || is_among (inputs_at graph id) k) = λ id.
-        c.in_ok-insert_all-2.ensures id
-        ∙ ap (λ b. b || is_among c.as_slice-in-Some.result.now id) (c.in-Some.ensures.updates.0 id ∙ ap (λ b. cond b false (contains nat_cmp pending id)) (is_at-key k id))
-        ∙ ap (λ b. cond (k == id) false (contains nat_cmp pending id) || b) (ap (λ xs. is_among xs id) (c.as_slice-in-Some.ensures ∙ ap (λ l. l.items) item) ∙ kept.links k id) in
+    c.in_ok-insert_all-2.ensures id
+    ∙ ap (λ b. b || is_among c.as_slice-in-Some.result.now id) (c.in-Some.ensures.updates.0 id ∙ ap (λ b. cond b false (contains nat_cmp pending id)) (is_at-key k id))
+    ∙ ap (λ b. cond (k == id) false (contains nat_cmp pending id) || b) (ap (λ xs. is_among xs id) (c.as_slice-in-Some.ensures ∙ ap (λ l. l.items) item) ∙ kept.links k id) in
     let next = reach_step graph touched pending c.insert_all-in-Some.new.pending c.reaching.reached.items c.reaching.invariant.1.0 k kept.ordered c.reaching.invariant.1.1 step first changed in
     let room : length (c.reaching.reached.items ++ k ∷ []) ≤ length graph = reach_room graph touched c.insert_all-in-Some.new.pending (c.reaching.reached.items ++ k ∷ []) (k + 1) next in
     let more : length c.push.new.self.items ≡ length c.reaching.reached.items + 1 = ap (λ found. length found.items) c.in_ok-push.ensures.ok ∙ length_push c.reaching.reached.items k in
@@ -73,5 +78,5 @@ pub returns : goal.returns
 returns c =
     let kept = subst (λ graph. IsKept graph c.self.inside.levels.items c.self.inside.regions.items c.self.inside.dependents.items c.self.inside.order.items) c.self.view_is c.self.invariant in
     plain_is c.reaching.reached (reach c.args.self.now c.args.touched.now.items)
-        (reach_all c.args.self.now c.args.touched.now.items c.reaching.pending c.reaching.reached.items c.reaching.invariant.1.0 kept.ordered c.reaching.invariant.1.1 (λ id. empty_from c.reaching.pending id c.in_default.ensures.variant.1))
-        c.reaching.invariant.0
+    (reach_all c.args.self.now c.args.touched.now.items c.reaching.pending c.reaching.reached.items c.reaching.invariant.1.0 kept.ordered c.reaching.invariant.1.1 (λ id. empty_from c.reaching.pending id c.in_default.ensures.variant.1))
+    c.reaching.invariant.0
