@@ -4,8 +4,10 @@ use Rattle.std.specs.Prelude.{nat_lt, Option, None, Some}
 use Rattle.std.specs.Option.{option_map, option_map_or}
 use Rattle.std.specs.List.{All, list_any, range_with_len, slice_get}
 use Rattle.std.proofs.lemmas.Bool.{cases_eq, eq-eqb, ne_eqb, lt-ltb, le-ltb, ltb-true, ltb-false}
-use Rattle.std.proofs.lemmas.List.{length_push, get_or_push, get_or_append_left, map-append, take_more, length-map}
+use Rattle.std.proofs.lemmas.List.{length_push, get_or_push, get_or_append_left, map-append, take_more, length-map, get_or-map}
+use Rattle.std.proofs.Math.Seq.{take-length}
 use Rattle.std.proofs.lemmas.List.Elements.{All-map, All-weaker}
+use Rattle.std.proofs.lemmas.List.Folds.{list_any_at}
 use Rattle.std.proofs.lemmas.List.FromFn.{get_or-map-range_with_len, length-map-range_with_len}
 use Rattle.std.proofs.lemmas.Option.{slice_get-map, slice_get-get_or}
 use Rattle.re_terms.specs.declared.program.Decl.{Decl}
@@ -14,7 +16,7 @@ use Rattle.re_terms.specs.Dependencies.{PlainNode, node_of, graph_of, inputs_at,
 use Rattle.re_graph.specs.Footprint.{is_region, is_supported}
 use Rattle.re_graph.specs.Kept.{has_bit, is_among, list_at, IsKept, IsOrderBy, comes_before}
 use Rattle.re_graph.proofs.Lists.{map_same, list_any_same}
-use Rattle.re_graph.proofs.Own.{level-own, level-low}
+use Rattle.re_graph.proofs.Own.{level-own, level-low, inputs_at-none}
 use Rattle.re_graph.proofs.Ranges.{range-more, All-range}
 use Rattle.re_graph.proofs.Steps.{list_at-push}
 use Rattle.re_graph.proofs.Supports.{is_supported-own}
@@ -97,3 +99,68 @@ build_step graph i nodes levels regions dependents linked node l bits ordered wi
       ∙ ap (λ b. b || ((i == other) && is_among (inputs_at graph i) id)) (so_far.links id other)
       ∙ links_by graph i id other (cases_eq other i);
 }
+
+-- a node that stands in the graph at its place
+pub record IsHere (graph : List PlainNode) (i : ℕ) (node : PlainNode) : Type 0 where
+  pub within : i < length graph
+  pub is : node ≡ get_or graph i node
+  pub inputs_are : node.inputs ≡ inputs_at graph i
+  pub region_is : node.region ≡ region_at graph i
+
+pub here : (decls read : List Decl) (i : ℕ) (d : Decl) (node : PlainNode) → read ≡ decls → i < length read → d ≡ get_or read i d → node ≡ node_of d → IsHere (graph_of decls) i node
+here decls read i d node same inside is_read is =
+    let under : i < length decls = omega (arith, inside, ap length same) in
+    let found : d ≡ get_or decls i d = is_read ∙ ap (λ xs. get_or xs i d) same in
+    record {
+      within = omega (arith, under, length-map decls node_of);
+      is = is ∙ ap node_of found ∙ sym (get_or-map node_of decls i d node under);
+      inputs_are = ap (λ n. n.inputs) (is ∙ ap node_of found) ∙ sym (inputs_at-decl decls i d under);
+      region_is = ap (λ n. n.region) (is ∙ ap node_of found) ∙ sym (region_at-decl decls i d under);
+    }
+
+-- the inputs of a declaration stand before it
+pub declared_of : (graph : List PlainNode) (i n : ℕ) (xs : List ℕ) → IsOrdered graph → xs ≡ inputs_at graph i → n ≡ i → All (λ input. input < n) xs
+declared_of graph i n xs ordered is count = subst (λ ys. All (λ input. input < n) ys) (sym is) (subst (λ m. All (λ input. input < m) (inputs_at graph i)) (sym count) (ordered i))
+
+before_same : (f g : ℕ → ℕ) (a b : ℕ) → f a ≡ g a → f b ≡ g b → comes_before f a b ≡ true → comes_before g a b ≡ true
+before_same f g a b p q before =
+    subst (λ x. (nat_lt x (g b) || ((x == g b) && nat_lt a b)) ≡ true) p (subst (λ y. (nat_lt (f a) y || ((f a == y) && nat_lt a b)) ≡ true) q before)
+
+-- the order by levels that were found is that by levels
+pub order_by : (f g : ℕ → ℕ) (n : ℕ) (order : List ℕ) → ((id : ℕ) → id < n → f id ≡ g id) → IsOrderBy f n order → IsOrderBy g n order
+order_by f g n order same found = record {
+  each = found.each;
+  ascending = λ i j d before inside. before_same f g (get_or order i d) (get_or order j d) (same (get_or order i d) (in_range i d (omega arith))) (same (get_or order j d) (in_range j d inside)) (found.ascending i j d before inside);
+}
+  where
+    in_range : (k d : ℕ) → k < length order → get_or order k d < n
+    in_range k d inside = let x = get_or order k d in ltb-true x n (sym (found.each x) ∙ list_any_at (λ other. other == x) order k d inside (eq-eqb x x refl))
+
+kept_at : (graph nodes : List PlainNode) (levels regions : List ℕ) (dependents : List (Listed ℕ)) (order : List ℕ) → IsOrdered graph → length graph ≤ 512 → IsBuilding graph (length graph) nodes levels regions dependents → nodes ≡ graph → IsOrderBy (λ id. get_or levels id 0) (length levels) order → IsKept graph levels regions dependents order
+kept_at graph nodes levels regions dependents order ordered few built all found =
+    let count : length levels ≡ length graph = level_count graph (length graph) levels built.level_list in
+    record {
+      ordered = ordered;
+      few = few;
+      level_list = built.level_list;
+      region_count = built.region_count;
+      region_sets = built.region_sets;
+      dependent_count = built.dependent_count;
+      links = λ id other. built.links id other ∙ inside id other (nat_lt other (length graph)) refl;
+      by_level = order_by (λ id. get_or levels id 0) (level graph) (length graph) order (λ id under. level_got graph (length graph) id levels built.level_list under) (subst (λ n. IsOrderBy (λ id. get_or levels id 0) n order) count found);
+    }
+  where
+    inside : (id other : ℕ) (b : Bool) → nat_lt other (length graph) ≡ b → (nat_lt other (length graph) && is_among (inputs_at graph other) id) ≡ is_among (inputs_at graph other) id
+    inside id other true is = ap (λ b. b && is_among (inputs_at graph other) id) is
+    inside id other false is = ap (λ b. b && is_among (inputs_at graph other) id) is ∙ sym (ap (λ xs. is_among xs id) (inputs_at-none graph other (ltb-false other (length graph) is)))
+
+-- what was built to the end is what a graph keeps
+pub kept_of : (graph nodes : List PlainNode) (levels regions : List ℕ) (dependents : List (Listed ℕ)) (order : List ℕ) (i : ℕ) → IsOrdered graph → length graph ≤ 512 → IsBuilding graph i nodes levels regions dependents → i ≡ length graph → IsOrderBy (λ id. get_or levels id 0) (length levels) order → IsKept nodes levels regions dependents order
+kept_of graph nodes levels regions dependents order i ordered few built end found =
+    let whole = subst (λ n. IsBuilding graph n nodes levels regions dependents) end built in
+    let all : nodes ≡ graph = whole.nodes_so_far ∙ take-length graph in
+    subst (λ g. IsKept g levels regions dependents order) (sym all) (kept_at graph nodes levels regions dependents order ordered few whole all found)
+
+-- the loop ends behind the last declaration
+pub at_end : (decls read : List Decl) (i : ℕ) → read ≡ decls → i ≤ length read → length read ≤ i → i ≡ length (graph_of decls)
+at_end decls read i same bound past = omega (arith, ap length same, length-map decls node_of)
