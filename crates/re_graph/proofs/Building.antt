@@ -82,6 +82,7 @@ links_by graph i id other (inr not_it) =
     or_false : (b : Bool) → (b || false) ≡ b
     or_false true = refl
     or_false false = refl
+
     same : nat_lt other i ≡ nat_lt other (i + 1)
     same = grind arith
 

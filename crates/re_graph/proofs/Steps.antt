@@ -100,6 +100,7 @@ list_by lists id false is =
   where
     empty : Listed ℕ
     empty = plain []
+
     alone : (k : ℕ) → get_or (empty ∷ []) k empty ≡ empty
     alone zero = refl
     alone (suc k) = refl

@@ -9,5 +9,7 @@ mod names;
 mod node;
 mod pending;
 mod regions;
+#[cfg(test)]
+mod tests;
 
 pub use graph::Graph;

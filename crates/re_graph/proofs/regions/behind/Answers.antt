@@ -9,5 +9,5 @@ pub returns-in-Some : goal.returns-in-Some
 returns-in-Some c = λ region.
     let inputs = list_any (λ id. has_bit (get_or c.args.regions.now id 0) region) c.args.node.now.inputs.items in
     has_bit-joined c.joined-inputs.result c.in-Some.region region inputs (c.requires.few c.in-Some.region c.in-Some.is)
-        (c.joined-inputs.ensures region ∙ ap (list_any (λ id. has_bit (get_or c.args.regions.now id 0) region)) c.as_slice.ensures)
+    (c.joined-inputs.ensures region ∙ ap (list_any (λ id. has_bit (get_or c.args.regions.now id 0) region)) c.as_slice.ensures)
     ∙ ap (λ own. is_region own region || inputs) (sym c.in-Some.is)

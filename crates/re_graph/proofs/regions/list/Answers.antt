@@ -14,10 +14,10 @@ loop-region-preserved c =
     let bits = c.args.bits in
     let region = c.loop-region.region in
     elim c.if-bits-region-eq1.branch [
-        then-bits-region-eq1+in_ok-push w ↦
-            w.regions-is
-            ∙ plain_push c.loop-region.regions w.push.new.self (filter (has_bit bits) (range_with_len 0 region)) region c.loop-region.invariant w.in_ok-push.ensures.ok
-            ∙ ap plain (sym (filter_range-takes (has_bit bits) region (has_bit-tried bits region w.if-bits-region-eq1.true)))
+      | then-bits-region-eq1+in_ok-push w ↦
+          w.regions-is
+          ∙ plain_push c.loop-region.regions w.push.new.self (filter (has_bit bits) (range_with_len 0 region)) region c.loop-region.invariant w.in_ok-push.ensures.ok
+          ∙ ap plain (sym (filter_range-takes (has_bit bits) region (has_bit-tried bits region w.if-bits-region-eq1.true)))
       | else-bits-region-eq1 w ↦
-            w.regions-is ∙ c.loop-region.invariant ∙ ap plain (sym (filter_range-skips (has_bit bits) region (has_bit-failed bits region w.if-bits-region-eq1.false)))
+          w.regions-is ∙ c.loop-region.invariant ∙ ap plain (sym (filter_range-skips (has_bit bits) region (has_bit-failed bits region w.if-bits-region-eq1.false)))
     ]

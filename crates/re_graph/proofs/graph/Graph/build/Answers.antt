@@ -22,7 +22,7 @@ level_above-requires-clause-low c =
     let i = c.building.id in
     let node = here decls c.as_slice-decl-items.result.now i c.decl-item.result (plain_node c.in_ok-node.node) c.as_slice-decl-items.ensures c.building-test.true c.decl-item.is c.in_ok-node.ensures in
     subst (λ levels. All (λ level. level < 511) levels) (sym c.deref.ensures.value)
-        (levels_low (graph_of decls) i 511 c.building.levels.items c.requires.ordered (omega (arith, node.within)) (omega (arith, node.within, length-map decls node_of, c.requires.few)) c.building.invariant.level_list)
+    (levels_low (graph_of decls) i 511 c.building.levels.items c.requires.ordered (omega (arith, node.within)) (omega (arith, node.within, length-map decls node_of, c.requires.few)) c.building.invariant.level_list)
 
 pub behind-requires-clause-declared : goal.behind-requires-clause-declared
 behind-requires-clause-declared c =
@@ -57,24 +57,24 @@ building-preserved c =
     let node = here decls c.as_slice-decl-items.result.now i c.decl-item.result read c.as_slice-decl-items.ensures c.building-test.true c.decl-item.is c.in_ok-node.ensures in
     let inputs : c.as_slice-inputs.result.now ≡ inputs_at graph i = c.as_slice-inputs.ensures ∙ node.inputs_are in
     let level_is : c.level_above.result ≡ level_above (map (λ input. get_or levels input 0) (inputs_at graph i)) =
-        c.level_above.ensures
-        ∙ ap (λ found. level_above (map (λ input. get_or found input 0) c.as_slice-inputs.result.now)) c.deref.ensures.value
-        ∙ ap (λ xs. level_above (map (λ input. get_or levels input 0) xs)) inputs in
+    c.level_above.ensures
+    ∙ ap (λ found. level_above (map (λ input. get_or found input 0) c.as_slice-inputs.result.now)) c.deref.ensures.value
+    ∙ ap (λ xs. level_above (map (λ input. get_or levels input 0) xs)) inputs in
     let bits_are : (region : ℕ) → has_bit c.behind.result region ≡ (is_region (region_at graph i) region || list_any (λ id. has_bit (get_or regions id 0) region) (inputs_at graph i)) = λ region.
-        c.behind.ensures region
-        ∙ ap (λ found. is_region read.region region || list_any (λ id. has_bit (get_or found id 0) region) read.inputs) c.deref-in-building.ensures.value
-        ∙ ap (λ own. is_region own region || list_any (λ id. has_bit (get_or regions id 0) region) read.inputs) node.region_is
-        ∙ ap (λ xs. is_region (region_at graph i) region || list_any (λ id. has_bit (get_or regions id 0) region) xs) node.inputs_are in
+    c.behind.ensures region
+    ∙ ap (λ found. is_region read.region region || list_any (λ id. has_bit (get_or found id 0) region) read.inputs) c.deref-in-building.ensures.value
+    ∙ ap (λ own. is_region own region || list_any (λ id. has_bit (get_or regions id 0) region) read.inputs) node.region_is
+    ∙ ap (λ xs. is_region (region_at graph i) region || list_any (λ id. has_bit (get_or regions id 0) region) xs) node.inputs_are in
     let links_are : (input other : ℕ) → is_among (list_at c.link.new.dependents.items input) other ≡ (is_among (list_at c.building.dependents.items input) other || ((i == other) && is_among (inputs_at graph i) input)) = λ input other.
-        c.in_ok-link.ensures.linked input other
-        ∙ ap (λ xs. is_among (list_at c.building.dependents.items input) other || ((i == other) && is_among xs input)) inputs in
+    c.in_ok-link.ensures.linked input other
+    ∙ ap (λ xs. is_among (list_at c.building.dependents.items input) other || ((i == other) && is_among xs input)) inputs in
     let next = build_step graph i nodes levels regions c.building.dependents.items c.link.new.dependents.items read c.level_above.result c.behind.result c.requires.ordered node.within c.building.invariant node.is level_is bits_are c.in_ok-link.ensures.count links_are in
     let pushed_node : map plain_node c.push-in-building-3.new.self.items ≡ nodes ++ read ∷ [] = ap (λ found. map plain_node found.items) c.in_ok-push-4.ensures.ok ∙ map-append plain_node c.building.nodes.items (c.in_ok-node.node ∷ []) in
     let pushed_list : c.push-in-building-2.new.self.items ≡ c.link.new.dependents.items ++ plain [] ∷ [] = c.in_ok-push-3.ensures.items ∙ ap (λ list. c.link.new.dependents.items ++ list ∷ []) c.new.ensures in
     subst (λ found. IsBuilding graph (i + 1) found c.push.new.self.items c.push-in-building.new.self.items c.push-in-building-2.new.self.items) (sym pushed_node)
-        (subst (λ found. IsBuilding graph (i + 1) (nodes ++ read ∷ []) found c.push-in-building.new.self.items c.push-in-building-2.new.self.items) (sym c.in_ok-push.ensures.items)
-            (subst (λ found. IsBuilding graph (i + 1) (nodes ++ read ∷ []) (levels ++ c.level_above.result ∷ []) found c.push-in-building-2.new.self.items) (sym c.in_ok-push-2.ensures.items)
-                (subst (λ found. IsBuilding graph (i + 1) (nodes ++ read ∷ []) (levels ++ c.level_above.result ∷ []) (regions ++ c.behind.result ∷ []) found) (sym pushed_list) next)))
+    (subst (λ found. IsBuilding graph (i + 1) (nodes ++ read ∷ []) found c.push-in-building.new.self.items c.push-in-building-2.new.self.items) (sym c.in_ok-push.ensures.items)
+    (subst (λ found. IsBuilding graph (i + 1) (nodes ++ read ∷ []) (levels ++ c.level_above.result ∷ []) found c.push-in-building-2.new.self.items) (sym c.in_ok-push-2.ensures.items)
+    (subst (λ found. IsBuilding graph (i + 1) (nodes ++ read ∷ []) (levels ++ c.level_above.result ∷ []) (regions ++ c.behind.result ∷ []) found) (sym pushed_list) next)))
 
 pub order-requires-clause-few : goal.order-requires-clause-few
 order-requires-clause-few c =
@@ -89,7 +89,7 @@ order-requires-clause-low c =
     let levels = c.building.levels.items in
     let count : c.building.id ≤ length levels = omega (arith, level_count (graph_of decls) c.building.id levels c.building.invariant.level_list) in
     subst (λ found. All (λ level. level < length found) found) (sym c.deref-2.ensures.value)
-        (levels_low (graph_of decls) c.building.id (length levels) levels c.requires.ordered (omega (arith, end)) count c.building.invariant.level_list)
+    (levels_low (graph_of decls) c.building.id (length levels) levels c.requires.ordered (omega (arith, end)) count c.building.invariant.level_list)
 
 pub invariant_of-result : goal.invariant_of-result
 invariant_of-result c =
@@ -103,5 +103,5 @@ invariant_of-result c =
     let found : IsOrderBy (λ id. get_or levels id 0) (length levels) order = subst (λ xs. IsOrderBy (λ id. get_or xs id 0) (length xs) order) c.deref-2.ensures.value c.in_ok-order.ensures in
     let kept = kept_of (graph_of decls) nodes levels regions dependents order c.building.id c.requires.ordered (omega (arith, c.requires.few, length-map decls node_of)) c.building.invariant end found in
     subst (λ xs. IsKept nodes xs c.from_vec-2.result.items c.from_vec-3.result.items order) (sym (ap (λ l. l.items) c.from_vec.ensures))
-        (subst (λ xs. IsKept nodes levels xs c.from_vec-3.result.items order) (sym (ap (λ l. l.items) c.from_vec-2.ensures))
-            (subst (λ xs. IsKept nodes levels regions xs order) (sym (ap (λ l. l.items) c.from_vec-3.ensures)) kept))
+    (subst (λ xs. IsKept nodes levels xs c.from_vec-3.result.items order) (sym (ap (λ l. l.items) c.from_vec-2.ensures))
+    (subst (λ xs. IsKept nodes levels regions xs order) (sym (ap (λ l. l.items) c.from_vec-3.ensures)) kept))

@@ -24,7 +24,7 @@ returns c =
     let kept = subst (λ nodes. IsKept nodes c.self.inside.levels.items c.self.inside.regions.items c.self.inside.dependents.items c.self.inside.order.items) c.self.view_is c.self.invariant in
     let found : c.as_slice-2.result.now ≡ reach graph touched = c.as_slice-2.ensures ∙ ap (λ l. l.items) c.in_ok-reached.ensures in
     let joined : (region : ℕ) → has_bit c.joined.result region ≡ list_any (λ id. has_bit (get_or regions id 0) region) (reach graph touched) = λ region.
-        c.joined.ensures region
-        ∙ ap (λ sets. list_any (λ id. has_bit (get_or sets id 0) region) c.as_slice-2.result.now) c.as_slice.ensures
-        ∙ ap (list_any (λ id. has_bit (get_or regions id 0) region)) found in
+    c.joined.ensures region
+    ∙ ap (λ sets. list_any (λ id. has_bit (get_or sets id 0) region) c.as_slice-2.result.now) c.as_slice.ensures
+    ∙ ap (list_any (λ id. has_bit (get_or regions id 0) region)) found in
     subst (λ xs. IfOk c.list.result (λ list. list ≡ plain xs)) (footprint_is graph touched regions c.joined.result kept.region_sets joined) c.list.ensures
