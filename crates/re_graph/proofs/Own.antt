@@ -1,11 +1,12 @@
 -- What a declaration is made of: its own level, whether it is reached, and whether a cell is behind it.
 use Rattle.std.proofs.Common.{◌≡◌, ◌<◌, ◌≤◌, ◌+◌, ◌==◌, ◌⊎◌, inl, inr, ℕ, zero, suc, Bool, true, false, ◌&&◌, ◌||◌, cond, List, [], ◌∷◌, ◌++◌, map, length, refl, sym, ap, subst, ◌∙◌, arith}
+use Rattle.std.specs.Prelude.{None, Some, nat_lt}
 use Rattle.std.specs.List.{All, list_any}
 use Rattle.std.specs.Option.{option_map_or}
 use Rattle.std.proofs.lemmas.Option.{slice_get_past}
-use Rattle.std.proofs.lemmas.Bool.{cases_eq, eq-eqb, ne_eqb, cond-true, cond-false}
-use Rattle.std.proofs.lemmas.List.Elements.{All-weaker, All-head, All-tail}
-use Rattle.re_terms.specs.Dependencies.{PlainNode, inputs_at, IsOrdered, below, level_above, level, is_reached, is_behind}
+use Rattle.std.proofs.lemmas.Bool.{cases_eq, eq-eqb, ne_eqb, cond-true, cond-false, ltb-true, ltb-false}
+use Rattle.std.proofs.lemmas.List.Elements.{All-nil, All-weaker, All-head, All-tail}
+use Rattle.re_terms.specs.Dependencies.{PlainNode, inputs_at, region_at, IsOrdered, HasRegions, below, level_above, level, is_reached, is_behind}
 use Rattle.re_graph.proofs.Lists.{map_same, list_any_same}
 
 -- at its own place
@@ -88,3 +89,21 @@ level-low graph id ordered within = low_below graph (suc id) ordered id (omega a
 -- nothing stands behind the list
 pub inputs_at-none : (graph : List PlainNode) (id : ℕ) → length graph ≤ id → inputs_at graph id ≡ []
 inputs_at-none graph id behind = ap (λ found. option_map_or (λ node. node.inputs) found []) (slice_get_past graph id behind)
+
+ordered_by : (graph : List PlainNode) (id : ℕ) → ((k : ℕ) → k < length graph → All (λ input. input < k) (inputs_at graph k)) → (b : Bool) → nat_lt id (length graph) ≡ b → All (λ input. input < id) (inputs_at graph id)
+ordered_by graph id each true is = each id (ltb-true id (length graph) is)
+ordered_by graph id each false is = subst (λ xs. All (λ input. input < id) xs) (sym (inputs_at-none graph id (ltb-false id (length graph) is))) (All-nil (λ input. input < id))
+
+-- a graph is in order where each of its declarations is
+pub IsOrdered-from : (graph : List PlainNode) → ((k : ℕ) → k < length graph → All (λ input. input < k) (inputs_at graph k)) → IsOrdered graph
+IsOrdered-from graph each id = ordered_by graph id each (nat_lt id (length graph)) refl
+
+regions_by : (graph : List PlainNode) (id region : ℕ) → ((k region : ℕ) → k < length graph → region_at graph k ≡ Some region → region ≤ 4) → region_at graph id ≡ Some region → (b : Bool) → nat_lt id (length graph) ≡ b → region ≤ 4
+regions_by graph id region each is true within = each id region (ltb-true id (length graph) within) is
+regions_by graph id region each is false within =
+    let none : None ≡ Some region = sym (ap (λ found. option_map_or (λ node. node.region) found None) (slice_get_past graph id (ltb-false id (length graph) within))) ∙ is in
+    cc
+
+-- its regions are few where each declaration's is
+pub HasRegions-from : (graph : List PlainNode) → ((k region : ℕ) → k < length graph → region_at graph k ≡ Some region → region ≤ 4) → HasRegions graph
+HasRegions-from graph each id region is = regions_by graph id region each is (nat_lt id (length graph)) refl
