@@ -1,0 +1,9 @@
+pub mod Bits
+pub mod Building
+pub mod Lists
+pub mod Orders
+pub mod Own
+pub mod Ranges
+pub mod Reaching
+pub mod Steps
+pub mod Supports
