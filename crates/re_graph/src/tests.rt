@@ -137,18 +137,51 @@ fn touch(
     Ok(Some((reached, regions)))
 }
 
+/// A declaration's level, where the graph is the program's and the id is declared.
+fn level_of(p: &Program, graph: &Graph, id: u16) -> Option<u32>
+    requires { graph.now ≡ graph_of p.now.decls.items }
+{
+    if (id as usize) < p.decls.len() {
+        Some(graph.level(id))
+    } else {
+        None
+    }
+}
+
 #[test]
-fn a_small_program(rt: HostRuntime) -> Result<(), Fail> {
+fn levels_and_order(rt: HostRuntime) -> Result<(), Fail> {
     let alloc = rt.alloc();
     let p = small(alloc)?;
     let graph = built(alloc, &p)?.ok_or("not in order")?.copy(alloc)?;
-    assert_eq!(rt; p.decls.len(), 15);
-    let levels: [u32; 15] = [0, 0, 1, 1, 2, 3, 4, 0, 1, 0, 2, 0, 4, 5, 6];
+    let levels = [0u32, 0, 1, 1, 2, 3, 4, 0, 1, 0, 2, 0, 4, 5, 6];
     for (id, level) in levels.iter().enumerate() {
-        assert_eq!(rt; graph.level(id as u16), *level, "at {id}");
+        assert_eq!(rt; level_of(&p, &graph, id as u16), Some(*level), "at {id}");
     }
     let order = [0u16, 1, 7, 9, 11, 2, 3, 8, 4, 10, 5, 6, 12, 13, 14];
     assert_eq!(rt; graph.order().as_slice(), order.as_slice());
+    Ok(())
+}
+
+/// What is reached and the footprint of some ids are these.
+fn reaches(
+    alloc: Global,
+    p: &Program,
+    graph: &Graph,
+    case: (&[u16], &[u16], &[u8]),
+) -> Result<bool, AllocError>
+    requires { graph.now ≡ graph_of p.now.decls.items }
+{
+    let Some((reached, regions)) = touch(alloc, p, graph, case.0)? else {
+        return Ok(false);
+    };
+    Ok(reached.as_slice() == case.1 && regions.as_slice() == case.2)
+}
+
+#[test]
+fn reach_and_footprint(rt: HostRuntime) -> Result<(), Fail> {
+    let alloc = rt.alloc();
+    let p = small(alloc)?;
+    let graph = built(alloc, &p)?.ok_or("not in order")?;
     let cases: [(&[u16], &[u16], &[u8]); 9] = [
         (&[], &[], &[]),
         (&[0], &[0], &[]),
@@ -160,10 +193,8 @@ fn a_small_program(rt: HostRuntime) -> Result<(), Fail> {
         (&[11], &[11, 12, 13, 14], &[0, 1]),
         (&[13, 8, 13], &[8, 10, 13, 14], &[0, 1, 2]),
     ];
-    for (ids, reached, regions) in cases {
-        let found = touch(alloc, &p, &graph, ids)?.ok_or("not declared")?;
-        assert_eq!(rt; found.0.as_slice(), reached, "of {ids:?}");
-        assert_eq!(rt; found.1.as_slice(), regions, "of {ids:?}");
+    for case in cases {
+        assert!(rt; reaches(alloc, &p, &graph, case)?);
     }
     Ok(())
 }
@@ -173,8 +204,7 @@ fn a_program_at_the_limits(rt: HostRuntime) -> Result<(), Fail> {
     let alloc = rt.alloc();
     let p = chain(alloc)?;
     let graph = built(alloc, &p)?.ok_or("not in order")?;
-    assert_eq!(rt; p.decls.len(), 512);
-    assert_eq!(rt; graph.level(511), 511);
+    assert_eq!(rt; level_of(&p, &graph, 511), Some(511));
     for (touched, count) in [(0, 512), (300, 212), (511, 1)] {
         let found = touch(alloc, &p, &graph, &[touched])?.ok_or("not declared")?;
         assert_eq!(rt; found.0.len(), count, "of {touched}");
