@@ -84,13 +84,14 @@ pub data Phrase : Type 0 where
   Further : ℕ → RawExpr → Phrase
   Primary : Phrase
 
--- what the marks from one place to another are, within a limit on open expressions; `opened` counts the expressions that are open there
-pub data Reads (at : ℕ → Mark) (limit : ℕ) : Phrase → ℕ → RawExpr → ℕ → ℕ → Type 0 where
+-- what the marks from one place to another are; `opened` counts the expressions that are open there, and the limit on them
+-- goes by the place of an expression's first mark
+pub data Reads (at : ℕ → Mark) (limit : ℕ → ℕ) : Phrase → ℕ → RawExpr → ℕ → ℕ → Type 0 where
   -- Expr = "if" Expr "then" Expr "else" Expr | Or
-  condition : {opened i j k n : ℕ} {c a b : RawExpr} → opened ≤ limit → at i ≡ mark.Reserved IF → Reads at limit Expression (opened + 1) c (i + 1) j
+  condition : {opened i j k n : ℕ} {c a b : RawExpr} → opened ≤ limit i → at i ≡ mark.Reserved IF → Reads at limit Expression (opened + 1) c (i + 1) j
     → at j ≡ mark.Reserved THEN → Reads at limit Expression (opened + 1) a (j + 1) k
     → at k ≡ mark.Reserved ELSE → Reads at limit Expression (opened + 1) b (k + 1) n → Reads at limit Expression opened (expr.If c a b) i n
-  plain : {opened i n : ℕ} {e : RawExpr} → opened ≤ limit → Reads at limit (Level 0) opened e i n → Reads at limit Expression opened e i n
+  plain : {opened i n : ℕ} {e : RawExpr} → opened ≤ limit i → Reads at limit (Level 0) opened e i n → Reads at limit Expression opened e i n
   -- Or = And { "or" And }, And = Cmp { "and" Cmp }, Cmp = Sum [ comparison Sum ], Sum = Prod { ("+" | "-") Prod }, Prod = Prim { ("*" | "/" | "%") Prim }
   operands : {level opened i k n : ℕ} {l e : RawExpr} → level < 5 → Reads at limit (Level (level + 1)) opened l i k → Reads at limit (Further level l) opened e k n
     → Reads at limit (Level level) opened e i n
@@ -123,11 +124,11 @@ pub data Reads (at : ℕ → Mark) (limit : ℕ) : Phrase → ℕ → RawExpr �
     → Reads at limit Primary opened (expr.Has t e) i (n + 1)
 
 -- the expression of a declaration, which is the first that is opened there
-abbrev pub ReadsWhole : (ℕ → Mark) → ℕ → RawExpr → ℕ → ℕ → Type 0
+abbrev pub ReadsWhole : (ℕ → Mark) → (ℕ → ℕ) → RawExpr → ℕ → ℕ → Type 0
 ReadsWhole at limit e i n = Reads at limit Expression 1 e i n
 
 -- Ev = "changed" "(" NAME ")" | "map" "(" NAME "," Expr ")" | "filter" "(" NAME "," Expr ")" | "either" "(" NAME "," NAME ")"
-pub data Source (at : ℕ → Mark) (limit : ℕ) : RawBody → ℕ → ℕ → Type 0 where
+pub data Source (at : ℕ → Mark) (limit : ℕ → ℕ) : RawBody → ℕ → ℕ → Type 0 where
   changed : {i : ℕ} {t : Listed ℕ} → at i ≡ mark.Reserved CHANGED → at (i + 1) ≡ mark.Sign OPEN → at (i + 2) ≡ mark.Name t → at (i + 3) ≡ mark.Sign CLOSE
     → Source at limit (body.Changed t) i (i + 4)
   mapped : {i n : ℕ} {t : Listed ℕ} {e : RawExpr} → at i ≡ mark.Reserved MAP → at (i + 1) ≡ mark.Sign OPEN → at (i + 2) ≡ mark.Name t → at (i + 3) ≡ mark.Sign COMMA
@@ -138,7 +139,7 @@ pub data Source (at : ℕ → Mark) (limit : ℕ) : RawBody → ℕ → ℕ → 
     → at (i + 4) ≡ mark.Name u → at (i + 5) ≡ mark.Sign CLOSE → Source at limit (body.Either t u) i (i + 6)
 
 -- what stands between a declaration's name and its `;`, by the word that the declaration begins with
-pub data Content (at : ℕ → Mark) (limit word : ℕ) : RawBody → ℕ → ℕ → Type 0 where
+pub data Content (at : ℕ → Mark) (limit : ℕ → ℕ) (word : ℕ) : RawBody → ℕ → ℕ → Type 0 where
   device : {i : ℕ} → word ≡ DEVICE → Content at limit word body.Device i i
   symbol : {i : ℕ} → word ≡ SYMBOL → Content at limit word body.Symbol i i
   -- "var" NAME ":" Kind "=" Lit Region ";"
@@ -160,7 +161,7 @@ pub data Content (at : ℕ → Mark) (limit word : ℕ) : RawBody → ℕ → �
     → Literal at v (i + 3) n → Content at limit word (body.Register k v) i n
 
 -- a declaration
-pub record Declaration (at : ℕ → Mark) (limit : ℕ) (d : RawDecl) (i n : ℕ) : Type 0 where
+pub record Declaration (at : ℕ → Mark) (limit : ℕ → ℕ) (d : RawDecl) (i n : ℕ) : Type 0 where
   pub word : ℕ
   pub last : ℕ
   pub begins : at i ≡ mark.Reserved word
@@ -170,12 +171,12 @@ pub record Declaration (at : ℕ → Mark) (limit : ℕ) (d : RawDecl) (i n : �
   pub next : n ≡ last + 1
 
 -- declarations, in order
-pub data Declarations (at : ℕ → Mark) (limit : ℕ) : List RawDecl → ℕ → ℕ → Type 0 where
+pub data Declarations (at : ℕ → Mark) (limit : ℕ → ℕ) : List RawDecl → ℕ → ℕ → Type 0 where
   none : {i : ℕ} → Declarations at limit [] i i
   more : {i k n : ℕ} {d : RawDecl} {ds : List RawDecl} → Declaration at limit d i k → Declarations at limit ds k n → Declarations at limit (d ∷ ds) i n
 
 -- Program = { Decl }: these marks are these declarations, within the limit on open expressions, and then the end of the text
-pub record Derives (limit : ℕ) (marks : List Mark) (ds : List RawDecl) : Type 0 where
+pub record Derives (limit : ℕ → ℕ) (marks : List Mark) (ds : List RawDecl) : Type 0 where
   pub last : ℕ
   pub declarations : Declarations (mark_at marks) limit ds 0 last
   pub end : mark_at marks last ≡ mark.End

@@ -1,6 +1,6 @@
 -- Where a list of tokens is refused, and why.
 -- Read against: in `device a` LF `var` no program begins `device a var`, so the refusal is at 9; in `device a;` LF `signal s = ` and 128 times `(` the last `(`, at 148, opens the 129th expression; 65 operands joined by `+` have depth 65 and are refused at the first of them.
-use Rattle.std.specs.Prelude.{ℕ, ◌+◌, ◌<◌, ◌≡◌, true, List, ◌++◌, take, Some, None, slice_get, ◌⊎◌}
+use Rattle.std.specs.Prelude.{ℕ, ◌+◌, ◌<◌, ◌≤◌, ◌≡◌, true, List, ◌++◌, take, Some, slice_get, ◌⊎◌}
 use Rattle.std.specs.List.{list_all}
 use Rattle.re_terms.specs.Trees.{is_declaration, raw_depth}
 use Rattle.re_terms.specs.Listed.{Listed}
@@ -13,14 +13,18 @@ use Rattle.re_terms.specs.declared.word.Kind.{Kind}
 use Rattle.re_terms.specs.declared.raw_expr.RawLit.{RawLit}
 use Rattle.re_terms.specs.declared.raw_expr.RawExpr.{RawExpr}
 use Rattle.re_terms.specs.declared.raw.RawDecl.{RawDecl}
-use Rattle.re_syntax.specs.Grammar.{marks_of, mark_at, kind_of, operator_of, Literal, ReadsWhole, Declarations, Derives}
+use Rattle.re_syntax.specs.Grammar.{marks_of, mark_at, kind_of, Literal, ReadsWhole, Declarations, Derives}
 
 -- how many expressions may be open at one place
-abbrev pub open_limit : ℕ
-open_limit = 128
+abbrev pub open_limit : ℕ → ℕ
+open_limit place = 128
 
--- some program within the limit begins with the first `count` marks
-pub record Begins (limit : ℕ) (marks : List Mark) (count : ℕ) : Type 0 where
+-- the limit is kept by all expressions that begin at this place or before it
+abbrev pub IsKeptUpTo : ℕ → (ℕ → ℕ) → Type 0
+IsKeptUpTo place limit = (k : ℕ) → k ≤ place → limit k ≤ 128
+
+-- some program begins with the first `count` marks
+pub record Begins (limit : ℕ → ℕ) (marks : List Mark) (count : ℕ) : Type 0 where
   pub more : List Mark
   pub program : List RawDecl
   pub derived : Derives limit (take count marks ++ more) program
@@ -29,47 +33,74 @@ pub record Begins (limit : ℕ) (marks : List Mark) (count : ℕ) : Type 0 where
 abbrev pub StandsAt : List Token → ℕ → ℕ → Type 0
 StandsAt tokens number byte = (token : Token) × (slice_get tokens number ≡ Some token) × (token.at ≡ byte)
 
--- the first token such that the tokens up to it, with it, begin no program begins at this byte
-pub record IsUnexpected (tokens : List Token) (byte : ℕ) : Type 0 where
-  pub number : ℕ
-  pub stands : StandsAt tokens number byte
-  pub begun : Begins open_limit (marks_of tokens) number
-  pub ended : (limit : ℕ) → Begins limit (marks_of tokens) (number + 1) → ⊥
+-- an event's source up to its expression
+pub data SourceHead (at : ℕ → Mark) : ℕ → ℕ → Type 0 where
+  mapped : {i : ℕ} {t : Listed ℕ} → at i ≡ mark.Reserved MAP → at (i + 1) ≡ mark.Sign OPEN → at (i + 2) ≡ mark.Name t → at (i + 3) ≡ mark.Sign COMMA
+    → SourceHead at i (i + 4)
+  filtered : {i : ℕ} {t : Listed ℕ} → at i ≡ mark.Reserved FILTER → at (i + 1) ≡ mark.Sign OPEN → at (i + 2) ≡ mark.Name t → at (i + 3) ≡ mark.Sign COMMA
+    → SourceHead at i (i + 4)
 
--- the first token that opens one expression too many begins at this byte
-pub record OpensTooMany (tokens : List Token) (byte : ℕ) : Type 0 where
-  pub number : ℕ
-  pub stands : StandsAt tokens number byte
-  pub begun : Begins open_limit (marks_of tokens) number
-  pub beyond : (limit : ℕ) × Begins limit (marks_of tokens) (number + 1)
-  pub ended : Begins open_limit (marks_of tokens) (number + 1) → ⊥
+-- what stands between a declaration's name and its expression, by the word that the declaration begins with
+pub data ContentHead (at : ℕ → Mark) (word : ℕ) : ℕ → ℕ → Type 0 where
+  derived : {i s : ℕ} → word ≡ EVENT → at i ≡ mark.Sign EQUALS → SourceHead at (i + 1) s → ContentHead at word i s
+  signal : {i : ℕ} → word ≡ SIGNAL → at i ≡ mark.Sign EQUALS → ContentHead at word i (i + 1)
+  fold : {i j : ℕ} {t : Listed ℕ} {k : Kind} {v : RawLit} → word ≡ FOLD → at i ≡ mark.Sign COLON → kind_of (at (i + 1)) ≡ Some k
+    → at (i + 2) ≡ mark.Sign EQUALS → Literal at v (i + 3) j → at j ≡ mark.Reserved ON → at (j + 1) ≡ mark.Name t → at (j + 2) ≡ mark.Reserved DO
+    → ContentHead at word i (j + 3)
 
 -- a declaration up to its expression
-pub data Head (at : ℕ → Mark) : ℕ → ℕ → Type 0 where
-  signal : {i : ℕ} {t : Listed ℕ} → at i ≡ mark.Reserved SIGNAL → at (i + 1) ≡ mark.Name t → at (i + 2) ≡ mark.Sign EQUALS → Head at i (i + 3)
-  mapped : {i : ℕ} {t u : Listed ℕ} → at i ≡ mark.Reserved EVENT → at (i + 1) ≡ mark.Name t → at (i + 2) ≡ mark.Sign EQUALS
-    → at (i + 3) ≡ mark.Reserved MAP → at (i + 4) ≡ mark.Sign OPEN → at (i + 5) ≡ mark.Name u → at (i + 6) ≡ mark.Sign COMMA → Head at i (i + 7)
-  filtered : {i : ℕ} {t u : Listed ℕ} → at i ≡ mark.Reserved EVENT → at (i + 1) ≡ mark.Name t → at (i + 2) ≡ mark.Sign EQUALS
-    → at (i + 3) ≡ mark.Reserved FILTER → at (i + 4) ≡ mark.Sign OPEN → at (i + 5) ≡ mark.Name u → at (i + 6) ≡ mark.Sign COMMA → Head at i (i + 7)
-  fold : {i j : ℕ} {t u : Listed ℕ} {k : Kind} {v : RawLit} → at i ≡ mark.Reserved FOLD → at (i + 1) ≡ mark.Name t → at (i + 2) ≡ mark.Sign COLON
-    → kind_of (at (i + 3)) ≡ Some k → at (i + 4) ≡ mark.Sign EQUALS → Literal at v (i + 5) j → at j ≡ mark.Reserved ON → at (j + 1) ≡ mark.Name u
-    → at (j + 2) ≡ mark.Reserved DO → Head at i (j + 3)
+pub record Head (at : ℕ → Mark) (i s : ℕ) : Type 0 where
+  pub word : ℕ
+  pub name : Listed ℕ
+  pub begins : at i ≡ mark.Reserved word
+  pub named : at (i + 1) ≡ mark.Name name
+  pub content : ContentHead at word (i + 2) s
 
--- the first declaration whose expression ends with a depth over 64 has its expression's first token at this byte;
--- the mark behind the expression doesn't go on with it
+-- the other text has the same marks before this place
+abbrev pub Agrees : ℕ → (ℕ → Mark) → (ℕ → Mark) → Type 0
+Agrees count at other = (k : ℕ) → k < count → other k ≡ at k
+
+-- an expression from this place on has a depth over 64, and none goes on with the mark behind it
+pub record IsDeep (at : ℕ → Mark) (i : ℕ) : Type 0 where
+  pub expression : RawExpr
+  pub behind : ℕ
+  pub read : ReadsWhole at open_limit expression i behind
+  pub deep : 64 < raw_depth expression
+  pub whole : (limit : ℕ → ℕ) (other : ℕ → Mark) (e : RawExpr) (n : ℕ) → Agrees (behind + 1) at other → ReadsWhole other limit e i n → n ≤ behind
+
+-- a declaration whose expression ends with a depth over 64 has its expression's first token at this byte, and none before it is so
 pub record EndsTooDeep (tokens : List Token) (byte : ℕ) : Type 0 where
   pub number : ℕ
   pub stands : StandsAt tokens number byte
   pub before : List RawDecl
   pub start : ℕ
-  pub behind : ℕ
-  pub expression : RawExpr
   pub declared : Declarations (mark_at (marks_of tokens)) open_limit before 0 start
   pub shallow : list_all is_declaration before ≡ true
   pub head : Head (mark_at (marks_of tokens)) start number
-  pub read : ReadsWhole (mark_at (marks_of tokens)) open_limit expression number behind
-  pub deep : 64 < raw_depth expression
-  pub whole : operator_of (mark_at (marks_of tokens) behind) ≡ None
+  pub deep : IsDeep (mark_at (marks_of tokens)) number
+
+-- the first token such that the tokens up to it, with it, begin no program begins at this byte;
+-- none before it opens a 129th expression, and no declaration's expression ended too deep
+pub record IsUnexpected (tokens : List Token) (byte : ℕ) : Type 0 where
+  pub number : ℕ
+  pub stands : StandsAt tokens number byte
+  pub limit : ℕ → ℕ
+  pub kept : IsKeptUpTo number limit
+  pub begun : Begins limit (marks_of tokens) number
+  pub ended : (limit : ℕ → ℕ) → Begins limit (marks_of tokens) (number + 1) → ⊥
+  pub first : (deep : ℕ) → EndsTooDeep tokens deep → ⊥
+
+-- the first token that opens a 129th expression begins at this byte: the tokens up to it, with it, begin a program, but none in which
+-- the expression behind it is open beside no more than 127 others;
+-- no declaration's expression ended too deep
+pub record OpensTooMany (tokens : List Token) (byte : ℕ) : Type 0 where
+  pub number : ℕ
+  pub stands : StandsAt tokens number byte
+  pub limit : ℕ → ℕ
+  pub kept : IsKeptUpTo number limit
+  pub begun : Begins limit (marks_of tokens) (number + 1)
+  pub ended : (limit : ℕ → ℕ) → IsKeptUpTo (number + 1) limit → Begins limit (marks_of tokens) (number + 1) → ⊥
+  pub first : (deep : ℕ) → EndsTooDeep tokens deep → ⊥
 
 -- why a list of tokens is refused at a byte as too deep
 abbrev pub IsTooDeep : List Token → ℕ → Type 0

@@ -1,0 +1,103 @@
+//! Larger expressions out of those that were read.
+ghost use Rattle.std.specs.Prelude.{◌≡◌, IfOk};
+ghost use Rattle.re_terms.specs.Trees.{raw_depth};
+ghost use Rattle.re_terms.specs.declared.raw_expr.RawExpr.{RawExpr};
+ghost use Rattle.re_terms.specs.declared.raw_expr.RawExpr.TheVariants as expr;
+ghost use Rattle.re_syntax.specs.Steps.{Stands};
+
+use crate::kept::Kept;
+use re_terms::{Op, RawExpr, Text};
+use sqlite_items::Boxed;
+use std::alloc::{AllocError, Global};
+
+/// The greatest depth of a declaration's expression.
+const DEEPEST: u8 = 64;
+
+/// An expression without operands.
+pub fn leaf(expr: RawExpr) -> Kept
+    requires { raw_depth expr ≡ 1 }
+    ensures { Stands result expr }
+{
+    Kept::Whole(expr, 1)
+}
+
+/// `not` of an operand.
+pub fn negation(alloc: Global, operand: Kept) -> Result<Kept, AllocError>
+    ensures { IfOk result (λ k. (e : RawExpr) → Stands operand e → Stands k (expr.Not e)) }
+{
+    match operand {
+        Kept::Whole(tree, depth) if depth < DEEPEST => Ok(Kept::Whole(
+            RawExpr::Not(Boxed::new(alloc, tree)?),
+            depth + 1,
+        )),
+        _ => Ok(Kept::TooDeep),
+    }
+}
+
+/// Whether a set has an element.
+pub fn membership(alloc: Global, set: Text, element: Kept) -> Result<Kept, AllocError>
+    ensures { IfOk result (λ k. (e : RawExpr) → Stands element e → Stands k (expr.Has set e)) }
+{
+    match element {
+        Kept::Whole(tree, depth) if depth < DEEPEST => Ok(Kept::Whole(
+            RawExpr::Has {
+                set,
+                element: Boxed::new(alloc, tree)?,
+            },
+            depth + 1,
+        )),
+        _ => Ok(Kept::TooDeep),
+    }
+}
+
+/// Two operands joined by an operator.
+pub fn binary(alloc: Global, op: Op, left: Kept, right: Kept) -> Result<Kept, AllocError>
+    ensures { IfOk result (λ k. (a b : RawExpr) → Stands left a → Stands right b → Stands k (expr.Bin op a b)) }
+{
+    match (left, right) {
+        (Kept::Whole(a, m), Kept::Whole(b, n)) if m.max(n) < DEEPEST => Ok(Kept::Whole(
+            RawExpr::Bin {
+                op,
+                left: Boxed::new(alloc, a)?,
+                right: Boxed::new(alloc, b)?,
+            },
+            m.max(n) + 1,
+        )),
+        _ => Ok(Kept::TooDeep),
+    }
+}
+
+/// An expression, and another for its fault.
+pub fn recovery(alloc: Global, tried: Kept, other: Kept) -> Result<Kept, AllocError>
+    ensures { IfOk result (λ k. (a b : RawExpr) → Stands tried a → Stands other b → Stands k (expr.Recover a b)) }
+{
+    match (tried, other) {
+        (Kept::Whole(a, m), Kept::Whole(b, n)) if m.max(n) < DEEPEST => Ok(Kept::Whole(
+            RawExpr::Recover {
+                tried: Boxed::new(alloc, a)?,
+                other: Boxed::new(alloc, b)?,
+            },
+            m.max(n) + 1,
+        )),
+        _ => Ok(Kept::TooDeep),
+    }
+}
+
+/// A choice of two expressions.
+pub fn choice(alloc: Global, cond: Kept, yes: Kept, no: Kept) -> Result<Kept, AllocError>
+    ensures { IfOk result (λ k. (c a b : RawExpr) → Stands cond c → Stands yes a → Stands no b → Stands k (expr.If c a b)) }
+{
+    match (cond, yes, no) {
+        (Kept::Whole(c, l), Kept::Whole(a, m), Kept::Whole(b, n)) if l.max(m.max(n)) < DEEPEST => {
+            Ok(Kept::Whole(
+                RawExpr::If {
+                    cond: Boxed::new(alloc, c)?,
+                    yes: Boxed::new(alloc, a)?,
+                    no: Boxed::new(alloc, b)?,
+                },
+                l.max(m.max(n)) + 1,
+            ))
+        }
+        _ => Ok(Kept::TooDeep),
+    }
+}

@@ -1,0 +1,147 @@
+//! Literals, and expressions without operands.
+ghost use Rattle.std.specs.Prelude.{◌≡◌, ℕ, ◌+◌, ◌<◌, ◌≤◌, length, IfOk, IfErr, MatchOption};
+ghost use Rattle.re_terms.specs.declared.token.Mark.TheVariants as mark;
+ghost use Rattle.re_terms.specs.declared.reserved.TheConstants.{NOT, RECOVER, HAS};
+ghost use Rattle.re_terms.specs.declared.signs.TheConstants.{OPEN};
+ghost use Rattle.re_syntax.specs.Grammar.{Primary};
+ghost use Rattle.re_syntax.specs.Steps.{text, EndsLast, Accepts, Finds, Stops, Never, nothing, is_region_word, ALiteral, ARegion, APhrase, FaultCode};
+
+use crate::keeping::leaf;
+use crate::kept::Kept;
+use crate::marks::{is_sign, is_word, mark, only_name, sign};
+use crate::stop::Stop;
+use re_terms::reserved::{ARG, FALSE, FAULT, IN, SELF, SIZE, TRUE};
+use re_terms::signs::{CLOSE, MINUS, OPEN};
+use re_terms::{Mark, RawExpr, RawLit, Token, TryCopy};
+use std::alloc::Global;
+
+/// The number of a token, if it is one.
+fn number(tokens: &[Token], i: usize) -> Option<u64>
+    requires { i < length tokens.now }
+    ensures { MatchOption result ((n : ℕ) → text tokens.now i ≡ mark.Number n → ⊥) (λ n. text tokens.now i ≡ mark.Number n) }
+{
+    match mark(tokens, i) {
+        Mark::Number(number) => Some(*number),
+        _ => None,
+    }
+}
+
+/// Reads a number behind `-`.
+fn negative(tokens: &[Token], i: usize) -> Result<(RawLit, usize), Stop>
+    requires inside { i < length tokens.now }
+    requires ends { EndsLast tokens.now }
+    requires minus { text tokens.now i ≡ mark.Sign MINUS }
+    ensures ok { IfOk result (λ r. Accepts ALiteral nothing 0 tokens.now r.0 i r.1) }
+    ensures stop { IfErr result (λ s. Stops ALiteral nothing Never tokens.now i s) }
+{
+    match number(tokens, i + 1) {
+        Some(9223372036854775808) => Ok((RawLit::Int(i64::MIN), i + 2)),
+        Some(n) if n < 9223372036854775808 => Ok((RawLit::Int(-(n as i64)), i + 2)),
+        _ => Err(Stop::Unexpected(i + 1)),
+    }
+}
+
+/// Reads a literal.
+pub fn literal(alloc: Global, tokens: &[Token], i: usize) -> Result<(RawLit, usize), Stop>
+    requires inside { i < length tokens.now }
+    requires ends { EndsLast tokens.now }
+    ensures ok { IfOk result (λ r. Accepts ALiteral nothing 0 tokens.now r.0 i r.1) }
+    ensures stop { IfErr result (λ s. Stops ALiteral nothing Never tokens.now i s) }
+{
+    if is_sign(tokens, i, MINUS) {
+        return negative(tokens, i);
+    }
+    if is_word(tokens, i, TRUE) {
+        return Ok((RawLit::Bool(true), i + 1));
+    }
+    if is_word(tokens, i, FALSE) {
+        return Ok((RawLit::Bool(false), i + 1));
+    }
+    match mark(tokens, i) {
+        Mark::Number(n) if *n < 9223372036854775808 => Ok((RawLit::Int(*n as i64), i + 1)),
+        Mark::Name(name) => Ok((RawLit::Name(name.copy(alloc)?), i + 1)),
+        _ => Err(Stop::Unexpected(i)),
+    }
+}
+
+/// Reads a region, which may be left out.
+pub fn region(tokens: &[Token], i: usize) -> Result<(u8, usize), Stop>
+    requires inside { i < length tokens.now }
+    requires ends { EndsLast tokens.now }
+    ensures ok { IfOk result (λ r. Accepts ARegion is_region_word 1 tokens.now r.0 i r.1) }
+    ensures stop { IfErr result (λ s. Stops ARegion is_region_word Never tokens.now i s) }
+{
+    if !is_word(tokens, i, IN) {
+        return Ok((1, i));
+    }
+    match number(tokens, i + 1) {
+        Some(n) if n >= 1 && n <= 4 => Ok((n as u8, i + 2)),
+        _ => Err(Stop::Unexpected(i + 1)),
+    }
+}
+
+/// Reads the number of a fault.
+fn fault_code(tokens: &[Token], i: usize) -> Result<(u32, usize), Stop>
+    requires inside { i < length tokens.now }
+    requires ends { EndsLast tokens.now }
+    ensures ok { IfOk result (λ r. Accepts FaultCode nothing 0 tokens.now r.0 i r.1) }
+    ensures stop { IfErr result (λ s. Stops FaultCode nothing Never tokens.now i s) }
+{
+    match number(tokens, i) {
+        Some(n) if n >= 100 && n <= 999 => Ok((n as u32, i + 1)),
+        _ => Err(Stop::Unexpected(i)),
+    }
+}
+
+/// Reads `fault` with its number.
+fn fault(tokens: &[Token], i: usize) -> Result<(Kept, usize), Stop>
+    requires inside { i < length tokens.now }
+    requires ends { EndsLast tokens.now }
+    requires word { text tokens.now i ≡ mark.Reserved FAULT }
+    ensures ok { (opened : ℕ) → IfOk result (λ r. Finds (APhrase Primary opened) nothing tokens.now r.0 i r.1) }
+    ensures stop { (opened : ℕ) → IfErr result (λ s. Stops (APhrase Primary opened) nothing Never tokens.now i s) }
+{
+    let opened = sign(tokens, i + 1, OPEN)?;
+    let (code, coded) = fault_code(tokens, opened)?;
+    let next = sign(tokens, coded, CLOSE)?;
+    Ok((leaf(RawExpr::Fault(code)), next))
+}
+
+/// Reads `size` with its set.
+fn size(alloc: Global, tokens: &[Token], i: usize) -> Result<(Kept, usize), Stop>
+    requires inside { i < length tokens.now }
+    requires ends { EndsLast tokens.now }
+    requires word { text tokens.now i ≡ mark.Reserved SIZE }
+    ensures ok { (opened : ℕ) → IfOk result (λ r. Finds (APhrase Primary opened) nothing tokens.now r.0 i r.1) }
+    ensures stop { (opened : ℕ) → IfErr result (λ s. Stops (APhrase Primary opened) nothing Never tokens.now i s) }
+{
+    let (set, next) = only_name(alloc, tokens, i + 1)?;
+    Ok((leaf(RawExpr::Size(set)), next))
+}
+
+/// Reads an expression without operands.
+pub fn read_leaf(alloc: Global, tokens: &[Token], i: usize) -> Result<(Kept, usize), Stop>
+    requires inside { i < length tokens.now }
+    requires ends { EndsLast tokens.now }
+    requires bracket { text tokens.now i ≡ mark.Sign OPEN → ⊥ }
+    requires negation { text tokens.now i ≡ mark.Reserved NOT → ⊥ }
+    requires recovery { text tokens.now i ≡ mark.Reserved RECOVER → ⊥ }
+    requires membership { text tokens.now i ≡ mark.Reserved HAS → ⊥ }
+    ensures ok { (opened : ℕ) → IfOk result (λ r. Finds (APhrase Primary opened) nothing tokens.now r.0 i r.1) }
+    ensures stop { (opened : ℕ) → IfErr result (λ s. Stops (APhrase Primary opened) nothing Never tokens.now i s) }
+{
+    if is_word(tokens, i, FAULT) {
+        return fault(tokens, i);
+    }
+    if is_word(tokens, i, SIZE) {
+        return size(alloc, tokens, i);
+    }
+    if is_word(tokens, i, ARG) {
+        return Ok((leaf(RawExpr::Arg), i + 1));
+    }
+    if is_word(tokens, i, SELF) {
+        return Ok((leaf(RawExpr::Own), i + 1));
+    }
+    let (value, next) = literal(alloc, tokens, i)?;
+    Ok((leaf(RawExpr::Lit(value)), next))
+}
