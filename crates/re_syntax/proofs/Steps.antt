@@ -18,9 +18,13 @@ pub record Completes {V : Type 0} (X : Language V) : Type 0 where
   pub whole : (limit : ℕ → ℕ) (other : ℕ → Mark) (k n : ℕ) → ((p : ℕ) → k ≤ p → 129 ≤ limit p) → Holds other k ahead n → X other limit value k n
 
 -- behind a reading that ends before a mark that goes on, this can only end at once
-abbrev pub Follows : {A V : Type 0} → (Mark → Bool) → (A → Language V) → (Mark → Bool) → Type 0
-Follows {A} {V} first Y goes_on = (limit : ℕ → ℕ) (other : ℕ → Mark) (a : A) (v : V) (k n : ℕ) → first (other k) ≡ true → Y a other limit v k n
+pub record Follows {A V : Type 0} (first : Mark → Bool) (Y : A → Language V) (goes_on : Mark → Bool) : Type 0 where
+  pub at_once : (limit : ℕ → ℕ) (other : ℕ → Mark) (a : A) (v : V) (k n : ℕ) → first (other k) ≡ true → Y a other limit v k n
     → (goes_on (other n) ≡ true) × (n ≡ k)
+
+-- what passes the first test passes the second
+pub record Includes (some all : Mark → Bool) : Type 0 where
+  pub each : (m : Mark) → some m ≡ true → all m ≡ true
 
 pub agrees_less : (at other : ℕ → Mark) (k n : ℕ) → k ≤ n → Agrees n at other → Agrees k at other
 agrees_less at other k n h agrees p below = agrees p (omega arith)
@@ -46,7 +50,7 @@ module _ {V : Type 0} (X : Language V) (goes_on : Mark → Bool) (at : ℕ → M
 
   -- a whole that is read to its end
   pub so_ends : (seen seen' i k n : ℕ) (v : V) (R : Language V) (ends : Mark → Bool) → SoFar X goes_on at seen i k R → Exactly R ends at seen' v k n → seen ≤ seen'
-    → ((m : Mark) → ends m ≡ true → goes_on m ≡ true) → Exactly X goes_on at seen' v i n
+    → Includes ends goes_on → Exactly X goes_on at seen' v i n
   so_ends seen seen' i k n v R ends s e h wider =
     let f1 = s.forward in let f2 = e.forward in
     record {
@@ -55,7 +59,7 @@ module _ {V : Type 0} (X : Language V) (goes_on : Mark → Bool) (at : ℕ → M
       only = λ limit other w m agrees x. elim (s.invert limit other w m (agrees_less at other seen seen' h agrees) x) [
         inl r ↦ elim (e.only limit other w m agrees r) [
           inl same ↦ inl same
-        | inr early ↦ inr (wider (other m) early.0, early.1)
+        | inr early ↦ inr (wider.each (other m) early.0, early.1)
         ]
       | inr early ↦ inr (early.0, omega (arith, early.1))
       ];
@@ -63,7 +67,7 @@ module _ {V : Type 0} (X : Language V) (goes_on : Mark → Bool) (at : ℕ → M
 
   -- a refusal of what is left
   pub so_stops : (seen i k j : ℕ) (cause : Cause) (R : Language V) (ends : Mark → Bool) → SoFar X goes_on at seen i k R → Refusal R ends at cause k j → seen ≤ j + 1
-    → ((m : Mark) → ends m ≡ true → goes_on m ≡ true) → Refusal X goes_on at cause i j
+    → Includes ends goes_on → Refusal X goes_on at cause i j
   so_stops seen i k j cause R ends s r h wider =
     let f1 = s.forward in let f2 = r.reached in
     record {
@@ -73,7 +77,7 @@ module _ {V : Type 0} (X : Language V) (goes_on : Mark → Bool) (at : ℕ → M
       some = r.some;
       begun = λ limit roomy other n agrees holds. s.build limit roomy.enough other r.value n (agrees_less at other k (fitting cause j) f2 agrees) (r.begun limit roomy other n agrees holds);
       ended = λ limit under other w m agrees x. elim (s.invert limit other w m (agrees_less at other seen (j + 1) h agrees) x) [
-        inl rest ↦ let e = r.ended limit under other w m agrees rest in (wider (other m) e.0, e.1)
+        inl rest ↦ let e = r.ended limit under other w m agrees rest in (wider.each (other m) e.0, e.1)
       | inr early ↦ (early.0, omega (arith, early.1))
       ];
     }
@@ -90,7 +94,7 @@ module _ {V : Type 0} (X : Language V) (goes_on : Mark → Bool) (at : ℕ → M
       invert = λ limit other v n agrees x. elim (s.invert limit other v n (agrees_less at other seen seen' h agrees) x) [
         inl r ↦ elim (e.only limit other r.value r.middle agrees r.first) [
           inl same ↦ inl (subst (λ (b : A). Z b other limit v k' n) same.0 (subst (λ (p : ℕ). Z r.value other limit v p n) same.1 r.second))
-        | inr early ↦ let f = follows limit other r.value v r.middle n early.0 r.second in inr (f.0, omega (arith, f.1, early.1))
+        | inr early ↦ let f = follows.at_once limit other r.value v r.middle n early.0 r.second in inr (f.0, omega (arith, f.1, early.1))
         ]
       | inr early ↦ inr (early.0, omega (arith, early.1))
       ];
@@ -116,7 +120,7 @@ module _ {V : Type 0} (X : Language V) (goes_on : Mark → Bool) (at : ℕ → M
         (record { value = r.value; middle = p.0; first = r.begun limit roomy other p.0 agrees p.1.0; second = c.whole limit other p.0 n (λ q far. roomy.behind q (omega arith)) p.1.1 });
       ended = λ limit under other w m agrees x. elim (s.invert limit other w m (agrees_less at other seen (j + 1) h agrees) x) [
         inl rest ↦ let e = r.ended limit under other rest.value rest.middle agrees rest.first in
-          let f = follows limit other rest.value w rest.middle m e.0 rest.second in (f.0, omega (arith, f.1, e.1))
+          let f = follows.at_once limit other rest.value w rest.middle m e.0 rest.second in (f.0, omega (arith, f.1, e.1))
       | inr early ↦ (early.0, omega (arith, early.1))
       ];
     }
@@ -125,8 +129,8 @@ pub one_exact : {V : Type 0} (P : Mark → V → Type 0) (at : ℕ → Mark) (se
   → Exactly (One P) nothing at seen v i (i + 1)
 one_exact {V} P at seen i v h same far = record {
   forward = omega arith;
-  read = λ limit enough other agrees. (subst (λ (m : Mark). P m v) (sym (agrees i (omega arith))) h, refl);
-  only = λ limit other w m agrees x. inl (same w (subst (λ (f : Mark). P f w) (agrees i (omega arith)) x.0), x.1);
+  read = λ limit enough other agrees. record { fits = subst (λ (m : Mark). P m v) (sym (agrees i (omega arith))) h; next = refl };
+  only = λ limit other w m agrees x. inl (same w (subst (λ (f : Mark). P f w) (agrees i (omega arith)) x.fits), x.next);
 }
 
 pub one_refused : {V : Type 0} (P : Mark → V → Type 0) (at : ℕ → Mark) (i : ℕ) (v : V) (m : Mark) → P m v → ((w : V) → P (at i) w → ⊥) → Refusal (One P) nothing at Unfit i i
@@ -135,18 +139,18 @@ one_refused {V} P at i v m h none = record {
   value = v;
   ahead = m ∷ [];
   some = lit< tt;
-  begun = λ limit roomy other n agrees holds. (subst (λ (f : Mark). P f v) (sym holds.0) h, holds.1);
-  ended = λ limit under other w n agrees x. absurd (none w (subst (λ (f : Mark). P f w) (agrees i (omega arith)) x.0));
+  begun = λ limit roomy other n agrees holds. record { fits = subst (λ (f : Mark). P f v) (sym holds.0) h; next = holds.1 };
+  ended = λ limit under other w n agrees x. absurd (none w (subst (λ (f : Mark). P f w) (agrees i (omega arith)) x.fits));
 }
 
-pub one_completes : {V : Type 0} (P : Mark → V → Type 0) (v : V) (m : Mark) → P m v → Completes (One P)
-one_completes P v m h = record { value = v; ahead = m ∷ []; whole = λ limit other k n room holds. (subst (λ (f : Mark). P f v) (sym holds.0) h, holds.1) }
+pub one_completes : {V : Type 0} {P : Mark → V → Type 0} (v : V) (m : Mark) → P m v → Completes (One P)
+one_completes {P = P} v m h = record { value = v; ahead = m ∷ []; whole = λ limit other k n room holds. record { fits = subst (λ (f : Mark). P f v) (sym holds.0) h; next = holds.1 } }
 
 pub done_completes : {V : Type 0} (v : V) → Completes (Done v)
-done_completes v = record { value = v; ahead = []; whole = λ limit other k n room holds. (refl, holds) }
+done_completes v = record { value = v; ahead = []; whole = λ limit other k n room holds. record { is = refl; stays = holds } }
 
-pub then_completes : {A V : Type 0} (Y : Language A) (Z : A → Language V) → Completes Y → ((a : A) → Completes (Z a)) → Completes (Then Y Z)
-then_completes {A} {V} Y Z c d =
+pub then_completes : {A V : Type 0} {Y : Language A} {Z : A → Language V} → Completes Y → ((a : A) → Completes (Z a)) → Completes (Then Y Z)
+then_completes {A} {V} {Y} {Z} c d =
     let e = d c.value in
     record {
       value = e.value;
@@ -158,21 +162,21 @@ then_completes {A} {V} Y Z c d =
     }
 
 pub done_exact : {V : Type 0} (v : V) (at : ℕ → Mark) (seen i : ℕ) → Exactly (Done v) nothing at seen v i i
-done_exact v at seen i = record { forward = omega arith; read = λ limit enough other agrees. (refl, refl); only = λ limit other w m agrees x. inl (x.0, x.1) }
+done_exact v at seen i = record { forward = omega arith; read = λ limit enough other agrees. record { is = refl; stays = refl }; only = λ limit other w m agrees x. inl (x.is, x.stays) }
 
-pub after_nothing : {A V : Type 0} (Y : A → Language V) (goes_on : Mark → Bool) → Follows nothing Y goes_on
-after_nothing Y goes_on limit other a v k n h x = absurd (no_true h)
-  where
-    no_true : false ≡ true → ⊥
-    no_true e = cc
+pub no_true : false ≡ true → ⊥
+no_true e = cc
 
-pub never_more : (goes_on : Mark → Bool) (m : Mark) → nothing m ≡ true → goes_on m ≡ true
-never_more goes_on m h = absurd (no_true h)
-  where
-    no_true : false ≡ true → ⊥
-    no_true e = cc
+pub after_nothing : {A V : Type 0} {Y : A → Language V} {goes_on : Mark → Bool} → Follows nothing Y goes_on
+after_nothing = record { at_once = λ limit other a v k n h x. absurd (no_true h) }
+
+pub never_more : {goes_on : Mark → Bool} → Includes nothing goes_on
+never_more = record { each = λ m h. absurd (no_true h) }
+
+pub no_more : {goes_on : Mark → Bool} → Includes goes_on goes_on
+no_more = record { each = λ m h. h }
 
 -- what goes on with the first phrase doesn't begin the second
-pub after_one : {A B V : Type 0} (first goes_on : Mark → Bool) (P : Mark → B → Type 0) (Z : A → B → Language V)
-  → ((m : Mark) (b : B) → first m ≡ true → P m b → ⊥) → Follows first (λ a. Then (One P) (Z a)) goes_on
-after_one first goes_on P Z differ limit other a v k n h x = absurd (differ (other k) x.value h x.first.0)
+pub after_one : {A B V : Type 0} {first goes_on : Mark → Bool} {P : Mark → B → Type 0} {Z : A → B → Language V}
+  → ((m : Mark) (b : B) → first m ≡ true → P m b → ⊥) → Follows first (λ (a : A). Then (One P) (Z a)) goes_on
+after_one differ = record { at_once = λ limit other a v k n h x. absurd (differ (other k) x.value h x.first.fits) }

@@ -98,12 +98,25 @@ pub record Refusal {V : Type 0} (X : Language V) (goes_on : Mark → Bool) (at :
   pub ended : (limit : ℕ → ℕ) → IsRefusedUnder cause j limit → (other : ℕ → Mark) (w : V) (m : ℕ) → Agrees (j + 1) at other → X other limit w i m
     → (goes_on (other m) ≡ true) × (m < fitting cause j)
 
+-- what a stop says of a step from place i that reads no expression
+abbrev pub MissAnswer : {V : Type 0} → Language V → (Mark → Bool) → List Token → ℕ → Stop → Type 0
+MissAnswer X goes_on tokens i stop.Memory = Unit {0}
+MissAnswer X goes_on tokens i (stop.Unexpected j) = Refusal X goes_on (text tokens) Unfit i j × (j < length tokens)
+MissAnswer X goes_on tokens i (stop.TooMany j) = ⊥
+MissAnswer X goes_on tokens i (stop.TooDeep j) = ⊥
+
+pub record Misses {V : Type 0} (X : Language V) (goes_on : Mark → Bool) (tokens : List Token) (i : ℕ) (s : Stop) : Type 0 where
+  pub told : MissAnswer X goes_on tokens i s
+
 -- what a stop says of a step from place i; what it says of depths is the caller's word
-abbrev pub Stops : {V : Type 0} → Language V → (Mark → Bool) → (ℕ → Type 0) → List Token → ℕ → Stop → Type 0
-Stops X goes_on Deep tokens i stop.Memory = Unit {0}
-Stops X goes_on Deep tokens i (stop.Unexpected j) = Refusal X goes_on (text tokens) Unfit i j × (j < length tokens) × ((s : ℕ) → Deep s → ⊥)
-Stops X goes_on Deep tokens i (stop.TooMany j) = Refusal X goes_on (text tokens) Beyond i j × (j < length tokens) × ((s : ℕ) → Deep s → ⊥)
-Stops X goes_on Deep tokens i (stop.TooDeep j) = Deep j × (j < length tokens)
+abbrev pub StopAnswer : {V : Type 0} → Language V → (Mark → Bool) → (ℕ → Type 0) → List Token → ℕ → Stop → Type 0
+StopAnswer X goes_on Deep tokens i stop.Memory = Unit {0}
+StopAnswer X goes_on Deep tokens i (stop.Unexpected j) = Refusal X goes_on (text tokens) Unfit i j × (j < length tokens) × ((s : ℕ) → Deep s → ⊥)
+StopAnswer X goes_on Deep tokens i (stop.TooMany j) = Refusal X goes_on (text tokens) Beyond i j × (j < length tokens) × ((s : ℕ) → Deep s → ⊥)
+StopAnswer X goes_on Deep tokens i (stop.TooDeep j) = Deep j × (j < length tokens)
+
+pub record Stops {V : Type 0} (X : Language V) (goes_on : Mark → Bool) (Deep : ℕ → Type 0) (tokens : List Token) (i : ℕ) (s : Stop) : Type 0 where
+  pub told : StopAnswer X goes_on Deep tokens i s
 
 -- a step that looks at `ahead` marks behind what it read
 pub record Accepts {V : Type 0} (X : Language V) (goes_on : Mark → Bool) (ahead : ℕ) (tokens : List Token) (v : V) (i n : ℕ) : Type 0 where
@@ -130,8 +143,9 @@ pub record Finds (X : Language RawExpr) (goes_on : Mark → Bool) (tokens : List
   pub accepts : Accepts X goes_on 1 tokens expression i n
 
 -- a mark that stands for a value
-abbrev pub One : {V : Type 0} → (Mark → V → Type 0) → Language V
-One P at limit v i n = P (at i) v × (n ≡ i + 1)
+pub record One {V : Type 0} (P : Mark → V → Type 0) (at : ℕ → Mark) (limit : ℕ → ℕ) (v : V) (i n : ℕ) : Type 0 where
+  pub fits : P (at i) v
+  pub next : n ≡ i + 1
 
 -- this mark
 abbrev pub Single : Mark → Language (Unit {0})
@@ -179,8 +193,9 @@ pub record Then {A V : Type 0} (X : Language A) (Y : A → Language V) (at : ℕ
   pub second : Y value at limit v middle n
 
 -- nothing more
-abbrev pub Done : {V : Type 0} → V → Language V
-Done v at limit w i n = (w ≡ v) × (n ≡ i)
+pub record Done {V : Type 0} (v : V) (at : ℕ → Mark) (limit : ℕ → ℕ) (w : V) (i n : ℕ) : Type 0 where
+  pub is : w ≡ v
+  pub stays : n ≡ i
 
 -- "(" NAME ","
 abbrev pub FirstName : Language (Listed ℕ)

@@ -1,7 +1,7 @@
 //! What stands between a declaration's name and its `;`.
 ghost use Rattle.std.specs.Prelude.{◌≡◌, ◌<◌, length, IfOk, IfErr};
 ghost use Rattle.re_terms.specs.declared.reserved.TheConstants.{VAR, EVENT, SIGNAL, FOLD, REGISTER};
-ghost use Rattle.re_syntax.specs.Steps.{EndsLast, Accepts, Stops, Never, nothing, extends, AContent, StartPart, DeepContent};
+ghost use Rattle.re_syntax.specs.Steps.{EndsLast, Accepts, Stops, Misses, nothing, extends, AContent, StartPart, DeepContent};
 
 use crate::expression::whole;
 use crate::leaf::{literal, region};
@@ -18,7 +18,7 @@ fn start_part(alloc: Global, tokens: &[Token], i: usize) -> Result<((Kind, RawLi
     requires inside { i < length tokens.now }
     requires ends { EndsLast tokens.now }
     ensures ok { IfOk result (λ r. Accepts StartPart nothing 0 tokens.now r.0 i r.1) }
-    ensures stop { IfErr result (λ s. Stops StartPart nothing Never tokens.now i s) }
+    ensures stop { IfErr result (λ s. Misses StartPart nothing tokens.now i s) }
 {
     let (kind, behind) = kind_part(tokens, i)?;
     let start = sign(tokens, behind, EQUALS)?;

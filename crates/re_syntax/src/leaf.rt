@@ -4,7 +4,7 @@ ghost use Rattle.re_terms.specs.declared.token.Mark.TheVariants as mark;
 ghost use Rattle.re_terms.specs.declared.reserved.TheConstants.{NOT, RECOVER, HAS};
 ghost use Rattle.re_terms.specs.declared.signs.TheConstants.{OPEN};
 ghost use Rattle.re_syntax.specs.Grammar.{Primary};
-ghost use Rattle.re_syntax.specs.Steps.{text, EndsLast, Accepts, Finds, Stops, Never, nothing, is_region_word, ALiteral, ARegion, APhrase, FaultCode};
+ghost use Rattle.re_syntax.specs.Steps.{text, EndsLast, Accepts, Finds, Misses, nothing, is_region_word, ALiteral, ARegion, APhrase, FaultCode};
 
 use crate::keeping::leaf;
 use crate::kept::Kept;
@@ -32,7 +32,7 @@ fn negative(tokens: &[Token], i: usize) -> Result<(RawLit, usize), Stop>
     requires ends { EndsLast tokens.now }
     requires minus { text tokens.now i ≡ mark.Sign MINUS }
     ensures ok { IfOk result (λ r. Accepts ALiteral nothing 0 tokens.now r.0 i r.1) }
-    ensures stop { IfErr result (λ s. Stops ALiteral nothing Never tokens.now i s) }
+    ensures stop { IfErr result (λ s. Misses ALiteral nothing tokens.now i s) }
 {
     match number(tokens, i + 1) {
         Some(9223372036854775808) => Ok((RawLit::Int(i64::MIN), i + 2)),
@@ -46,7 +46,7 @@ pub fn literal(alloc: Global, tokens: &[Token], i: usize) -> Result<(RawLit, usi
     requires inside { i < length tokens.now }
     requires ends { EndsLast tokens.now }
     ensures ok { IfOk result (λ r. Accepts ALiteral nothing 0 tokens.now r.0 i r.1) }
-    ensures stop { IfErr result (λ s. Stops ALiteral nothing Never tokens.now i s) }
+    ensures stop { IfErr result (λ s. Misses ALiteral nothing tokens.now i s) }
 {
     if is_sign(tokens, i, MINUS) {
         return negative(tokens, i);
@@ -69,7 +69,7 @@ pub fn region(tokens: &[Token], i: usize) -> Result<(u8, usize), Stop>
     requires inside { i < length tokens.now }
     requires ends { EndsLast tokens.now }
     ensures ok { IfOk result (λ r. Accepts ARegion is_region_word 1 tokens.now r.0 i r.1) }
-    ensures stop { IfErr result (λ s. Stops ARegion is_region_word Never tokens.now i s) }
+    ensures stop { IfErr result (λ s. Misses ARegion is_region_word tokens.now i s) }
 {
     if !is_word(tokens, i, IN) {
         return Ok((1, i));
@@ -85,7 +85,7 @@ fn fault_code(tokens: &[Token], i: usize) -> Result<(u32, usize), Stop>
     requires inside { i < length tokens.now }
     requires ends { EndsLast tokens.now }
     ensures ok { IfOk result (λ r. Accepts FaultCode nothing 0 tokens.now r.0 i r.1) }
-    ensures stop { IfErr result (λ s. Stops FaultCode nothing Never tokens.now i s) }
+    ensures stop { IfErr result (λ s. Misses FaultCode nothing tokens.now i s) }
 {
     match number(tokens, i) {
         Some(n) if n >= 100 && n <= 999 => Ok((n as u32, i + 1)),
@@ -99,7 +99,7 @@ fn fault(tokens: &[Token], i: usize) -> Result<(Kept, usize), Stop>
     requires ends { EndsLast tokens.now }
     requires word { text tokens.now i ≡ mark.Reserved FAULT }
     ensures ok { (opened : ℕ) → IfOk result (λ r. Finds (APhrase Primary opened) nothing tokens.now r.0 i r.1) }
-    ensures stop { (opened : ℕ) → IfErr result (λ s. Stops (APhrase Primary opened) nothing Never tokens.now i s) }
+    ensures stop { (opened : ℕ) → IfErr result (λ s. Misses (APhrase Primary opened) nothing tokens.now i s) }
 {
     let opened = sign(tokens, i + 1, OPEN)?;
     let (code, coded) = fault_code(tokens, opened)?;
@@ -113,7 +113,7 @@ fn size(alloc: Global, tokens: &[Token], i: usize) -> Result<(Kept, usize), Stop
     requires ends { EndsLast tokens.now }
     requires word { text tokens.now i ≡ mark.Reserved SIZE }
     ensures ok { (opened : ℕ) → IfOk result (λ r. Finds (APhrase Primary opened) nothing tokens.now r.0 i r.1) }
-    ensures stop { (opened : ℕ) → IfErr result (λ s. Stops (APhrase Primary opened) nothing Never tokens.now i s) }
+    ensures stop { (opened : ℕ) → IfErr result (λ s. Misses (APhrase Primary opened) nothing tokens.now i s) }
 {
     let (set, next) = only_name(alloc, tokens, i + 1)?;
     Ok((leaf(RawExpr::Size(set)), next))
@@ -128,7 +128,7 @@ pub fn read_leaf(alloc: Global, tokens: &[Token], i: usize) -> Result<(Kept, usi
     requires recovery { text tokens.now i ≡ mark.Reserved RECOVER → ⊥ }
     requires membership { text tokens.now i ≡ mark.Reserved HAS → ⊥ }
     ensures ok { (opened : ℕ) → IfOk result (λ r. Finds (APhrase Primary opened) nothing tokens.now r.0 i r.1) }
-    ensures stop { (opened : ℕ) → IfErr result (λ s. Stops (APhrase Primary opened) nothing Never tokens.now i s) }
+    ensures stop { (opened : ℕ) → IfErr result (λ s. Misses (APhrase Primary opened) nothing tokens.now i s) }
 {
     if is_word(tokens, i, FAULT) {
         return fault(tokens, i);

@@ -1,8 +1,8 @@
 //! Single tokens.
-ghost use Rattle.std.specs.Prelude.{◌≡◌, ℕ, ◌+◌, ◌<◌, ◌≤◌, length, IfOk, IfErr, MatchOption, IsTrue, ◌↔◌, Some};
+ghost use Rattle.std.specs.Prelude.{◌≡◌, ℕ, ◌+◌, ◌<◌, ◌≤◌, length, IfOk, IfErr, MatchOption, Some, true, false};
 ghost use Rattle.re_terms.specs.declared.token.Mark.TheVariants as mark;
 ghost use Rattle.re_syntax.specs.Grammar.{operator_of, level_of};
-ghost use Rattle.re_syntax.specs.Steps.{text, EndsLast, Accepts, Stops, Never, nothing, Single, Named, AKind, FirstName, OnlyName, KindPart};
+ghost use Rattle.re_syntax.specs.Steps.{text, EndsLast, Accepts, Misses, nothing, Single, Named, AKind, FirstName, OnlyName, KindPart};
 
 use crate::stop::Stop;
 use re_terms::reserved::{AND, BOOL, INT, OR, SYM};
@@ -24,7 +24,8 @@ pub fn mark(tokens: &[Token], i: usize) -> &Mark
 /// Whether a token is this sign.
 pub fn is_sign(tokens: &[Token], i: usize, sign: u8) -> bool
     requires { i < length tokens.now }
-    ensures { IsTrue result ↔ (text tokens.now i ≡ mark.Sign sign) }
+    ensures yes { result ≡ true → text tokens.now i ≡ mark.Sign sign }
+    ensures other { result ≡ false → text tokens.now i ≡ mark.Sign sign → ⊥ }
 {
     match mark(tokens, i) {
         Mark::Sign(found) => *found == sign,
@@ -35,7 +36,8 @@ pub fn is_sign(tokens: &[Token], i: usize, sign: u8) -> bool
 /// Whether a token is this reserved word.
 pub fn is_word(tokens: &[Token], i: usize, word: u8) -> bool
     requires { i < length tokens.now }
-    ensures { IsTrue result ↔ (text tokens.now i ≡ mark.Reserved word) }
+    ensures yes { result ≡ true → text tokens.now i ≡ mark.Reserved word }
+    ensures other { result ≡ false → text tokens.now i ≡ mark.Reserved word → ⊥ }
 {
     match mark(tokens, i) {
         Mark::Reserved(found) => *found == word,
@@ -48,7 +50,7 @@ pub fn sign(tokens: &[Token], i: usize, sign: u8) -> Result<usize, Stop>
     requires inside { i < length tokens.now }
     requires ends { EndsLast tokens.now }
     ensures ok { IfOk result (λ n. Accepts (Single (mark.Sign sign)) nothing 0 tokens.now tt i n) }
-    ensures stop { IfErr result (λ s. Stops (Single (mark.Sign sign)) nothing Never tokens.now i s) }
+    ensures stop { IfErr result (λ s. Misses (Single (mark.Sign sign)) nothing tokens.now i s) }
 {
     if is_sign(tokens, i, sign) {
         Ok(i + 1)
@@ -62,7 +64,7 @@ pub fn word(tokens: &[Token], i: usize, word: u8) -> Result<usize, Stop>
     requires inside { i < length tokens.now }
     requires ends { EndsLast tokens.now }
     ensures ok { IfOk result (λ n. Accepts (Single (mark.Reserved word)) nothing 0 tokens.now tt i n) }
-    ensures stop { IfErr result (λ s. Stops (Single (mark.Reserved word)) nothing Never tokens.now i s) }
+    ensures stop { IfErr result (λ s. Misses (Single (mark.Reserved word)) nothing tokens.now i s) }
 {
     if is_word(tokens, i, word) {
         Ok(i + 1)
@@ -76,7 +78,7 @@ pub fn name(alloc: Global, tokens: &[Token], i: usize) -> Result<(Text, usize), 
     requires inside { i < length tokens.now }
     requires ends { EndsLast tokens.now }
     ensures ok { IfOk result (λ r. Accepts Named nothing 0 tokens.now r.0 i r.1) }
-    ensures stop { IfErr result (λ s. Stops Named nothing Never tokens.now i s) }
+    ensures stop { IfErr result (λ s. Misses Named nothing tokens.now i s) }
 {
     match mark(tokens, i) {
         Mark::Name(name) => Ok((name.copy(alloc)?, i + 1)),
@@ -89,7 +91,7 @@ pub fn kind(tokens: &[Token], i: usize) -> Result<(Kind, usize), Stop>
     requires inside { i < length tokens.now }
     requires ends { EndsLast tokens.now }
     ensures ok { IfOk result (λ r. Accepts AKind nothing 0 tokens.now r.0 i r.1) }
-    ensures stop { IfErr result (λ s. Stops AKind nothing Never tokens.now i s) }
+    ensures stop { IfErr result (λ s. Misses AKind nothing tokens.now i s) }
 {
     if is_word(tokens, i, INT) {
         Ok((Kind::Int, i + 1))
@@ -107,7 +109,7 @@ pub fn first_name(alloc: Global, tokens: &[Token], i: usize) -> Result<(Text, us
     requires inside { i < length tokens.now }
     requires ends { EndsLast tokens.now }
     ensures ok { IfOk result (λ r. Accepts FirstName nothing 0 tokens.now r.0 i r.1) }
-    ensures stop { IfErr result (λ s. Stops FirstName nothing Never tokens.now i s) }
+    ensures stop { IfErr result (λ s. Misses FirstName nothing tokens.now i s) }
 {
     let opened = sign(tokens, i, OPEN)?;
     let (name, named) = name(alloc, tokens, opened)?;
@@ -120,7 +122,7 @@ pub fn only_name(alloc: Global, tokens: &[Token], i: usize) -> Result<(Text, usi
     requires inside { i < length tokens.now }
     requires ends { EndsLast tokens.now }
     ensures ok { IfOk result (λ r. Accepts OnlyName nothing 0 tokens.now r.0 i r.1) }
-    ensures stop { IfErr result (λ s. Stops OnlyName nothing Never tokens.now i s) }
+    ensures stop { IfErr result (λ s. Misses OnlyName nothing tokens.now i s) }
 {
     let opened = sign(tokens, i, OPEN)?;
     let (name, named) = name(alloc, tokens, opened)?;
@@ -133,7 +135,7 @@ pub fn kind_part(tokens: &[Token], i: usize) -> Result<(Kind, usize), Stop>
     requires inside { i < length tokens.now }
     requires ends { EndsLast tokens.now }
     ensures ok { IfOk result (λ r. Accepts KindPart nothing 0 tokens.now r.0 i r.1) }
-    ensures stop { IfErr result (λ s. Stops KindPart nothing Never tokens.now i s) }
+    ensures stop { IfErr result (λ s. Misses KindPart nothing tokens.now i s) }
 {
     let behind = sign(tokens, i, COLON)?;
     kind(tokens, behind)

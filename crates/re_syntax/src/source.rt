@@ -1,7 +1,7 @@
 //! The sources of derived events.
 ghost use Rattle.std.specs.Prelude.{◌≡◌, ◌<◌, length, IfOk, IfErr};
 ghost use Rattle.re_terms.specs.declared.token.Mark.TheVariants as mark;
-ghost use Rattle.re_syntax.specs.Steps.{text, EndsLast, Accepts, Stops, Never, nothing, ASource, DeepSource};
+ghost use Rattle.re_syntax.specs.Steps.{text, EndsLast, Accepts, Stops, nothing, ASource, DeepSource};
 
 use crate::expression::whole;
 use crate::marks::{first_name, is_word, name, only_name, sign};
