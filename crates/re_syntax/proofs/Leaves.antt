@@ -1,7 +1,7 @@
-use Rattle.std.proofs.Common.{ℕ, suc, ◌+◌, ◌^◌, ◌<◌, ◌≤◌, ◌≡◌, ◌⊎◌, inl, inr, Bool, true, false, List, [], ◌∷◌, length, Option, Some, None, ℤ, pos, refl, sym, subst, ◌∙◌, ap, arith, lit≤, lit<}
+use Rattle.std.proofs.Common.{ℕ, suc, ◌+◌, ◌^◌, ◌<◌, ◌≤◌, ◌≡◌, ◌≢◌, ◌⊎◌, inl, inr, Bool, true, false, List, [], ◌∷◌, length, Option, Some, None, ℤ, pos, refl, sym, subst, ◌∙◌, ap, arith, lit≤, lit<}
 use Rattle.std.specs.Prelude.{◌-ℤ◌}
 use Rattle.re_terms.specs.Listed.{Listed, plain}
-use Rattle.re_terms.specs.declared.reserved.TheConstants.{IN, TRUE, FALSE, INT, NOT, RECOVER, HAS, FAULT, SIZE, ARG, SELF}
+use Rattle.re_terms.specs.declared.reserved.TheConstants.{IN, TRUE, FALSE, INT, BOOL, SYM, NOT, RECOVER, HAS, FAULT, SIZE, ARG, SELF}
 use Rattle.re_terms.specs.declared.signs.TheConstants.{COLON, EQUALS, COMMA, OPEN, CLOSE, MINUS}
 use Rattle.re_terms.specs.declared.token.Token.{Token}
 use Rattle.re_terms.specs.declared.token.Mark.{Mark}
@@ -16,7 +16,7 @@ use Rattle.re_syntax.specs.declared.stop.Stop.TheVariants as stop
 use Rattle.re_syntax.specs.Grammar.{kind_of, Literal, number, negative, truth, falsity, name, Region, unwritten, written, Primary, Reads, literal_, arg, own, brackets, negation, recovery, fault, size, membership}
 use Rattle.re_syntax.specs.Steps.{Language, text, IsEnough, nothing, is_region_word, EndsLast, Accepts, Misses, Unfit, Refusal, Then, One, Done, Single, Named, AKind, FaultCode, ALiteral, ARegion, APhrase, FirstName, OnlyName, KindPart, StartPart}
 use Rattle.re_syntax.proofs.Steps.{Completes, one_completes, done_completes, then_completes, no_true}
-use Rattle.re_syntax.proofs.Tokens.{Stage}
+use Rattle.re_syntax.proofs.Tokens.{Stage, one_accepts, one_misses}
 use Rattle.re_syntax.proofs.Rules.{clash, same_name, same_number, form, stage_at, moved}
 
 pub mark_completes : (m : Mark) → Completes (Single m)
@@ -38,6 +38,43 @@ literal_completes = record { value = literal.Bool true; ahead = mark.Reserved TR
 
 pub region_completes : Completes ARegion
 region_completes = record { value = 1; ahead = []; whole = λ limit other k n room h. subst (λ (q : ℕ). Region other 1 k q) (sym h) unwritten }
+
+no_kind : (k : Kind) → kind_of mark.End ≡ Some k → ⊥
+unfolding kind_of
+no_kind k e = cc
+
+same_kind : {m : Option Kind} {a b : Kind} → m ≡ Some a → m ≡ Some b → b ≡ a
+same_kind c d = cc
+
+pub kind_accepts : (tokens : List Token) (i : ℕ) (w : ℕ) (k : Kind) → i < length tokens → EndsLast tokens → text tokens i ≡ mark.Reserved w → kind_of (mark.Reserved w) ≡ Some k → Accepts AKind nothing 0 tokens k i (i + 1)
+kind_accepts tokens i w k inside ends h is = one_accepts (λ m k. kind_of m ≡ Some k) tokens i k inside ends (no_kind k) (ap kind_of h ∙ is) (λ u g. same_kind (ap kind_of h ∙ is) g)
+
+pub int_kind : kind_of (mark.Reserved INT) ≡ Some kind.Int
+unfolding kind_of
+int_kind = refl
+
+pub bool_kind : kind_of (mark.Reserved BOOL) ≡ Some kind.Bool
+unfolding kind_of
+bool_kind = refl
+
+pub sym_kind : kind_of (mark.Reserved SYM) ≡ Some kind.Sym
+unfolding kind_of
+sym_kind = refl
+
+no_kind_word : (w : ℕ) (k : Kind) → w ≢ INT → w ≢ BOOL → w ≢ SYM → kind_of (mark.Reserved w) ≡ Some k → ⊥
+unfolding kind_of
+no_kind_word w k a b c e = grind arith
+
+no_kind_mark : (m : Mark) (k : Kind) → (m ≡ mark.Reserved INT → ⊥) → (m ≡ mark.Reserved BOOL → ⊥) → (m ≡ mark.Reserved SYM → ⊥) → kind_of m ≡ Some k → ⊥
+unfolding kind_of
+no_kind_mark (mark.Number n) k a b c e = cc
+no_kind_mark (mark.Name t) k a b c e = cc
+no_kind_mark (mark.Reserved w) k a b c e = no_kind_word w k (λ h. a (ap mark.Reserved h)) (λ h. b (ap mark.Reserved h)) (λ h. c (ap mark.Reserved h)) e
+no_kind_mark (mark.Sign s) k a b c e = cc
+no_kind_mark mark.End k a b c e = cc
+
+pub kind_misses : (tokens : List Token) (i : ℕ) → i < length tokens → (text tokens i ≡ mark.Reserved INT → ⊥) → (text tokens i ≡ mark.Reserved BOOL → ⊥) → (text tokens i ≡ mark.Reserved SYM → ⊥) → Misses AKind nothing tokens i (stop.Unexpected i)
+kind_misses tokens i inside a b c = one_misses (λ m k. kind_of m ≡ Some k) tokens i kind.Int (mark.Reserved INT) inside int_kind (λ k e. no_kind_mark (text tokens i) k a b c e)
 
 -- literals
 
@@ -207,7 +244,7 @@ region_misses tokens i inside h none = record { told = (record {
 leaf_only : (opened : ℕ) (limit : ℕ → ℕ) (other : ℕ → Mark) (v : RawExpr) (i n : ℕ) → (other i ≡ mark.Sign OPEN → ⊥) → (other i ≡ mark.Reserved NOT → ⊥) → (other i ≡ mark.Reserved RECOVER → ⊥)
   → (other i ≡ mark.Reserved HAS → ⊥) → (other i ≡ mark.Reserved FAULT → ⊥) → (other i ≡ mark.Reserved SIZE → ⊥) → (other i ≡ mark.Reserved ARG → ⊥) → (other i ≡ mark.Reserved SELF → ⊥)
   → Reads other limit Primary opened v i n → Then ALiteral (λ w. Done (expr.Lit w)) other limit v i n
-leaf_only opened limit other _ _ _ a b c d e f g h (literal_ {v = v} {n = n} x) = record { value = v; middle = n; first = x; second = record { is = refl; stays = refl } }
+leaf_only opened limit other _ _ _ a b c d e f g h (literal_ {n = n} {v = v} x) = record { value = v; middle = n; first = x; second = record { is = refl; stays = refl } }
 leaf_only opened limit other _ _ _ a b c d e f g h (arg x) = absurd (g x)
 leaf_only opened limit other _ _ _ a b c d e f g h (own x) = absurd (h x)
 leaf_only opened limit other _ _ _ a b c d e f g h (brackets x _ _) = absurd (a x)

@@ -1,4 +1,4 @@
-use Rattle.std.proofs.Common.{ℕ, suc, ◌+◌, ◌<◌, ◌≤◌, ◌≡◌, ◌⊎◌, inl, inr, Bool, true, false, List, length, Option, Some, None, refl, sym, subst, ◌∙◌, ap, arith, add-zero, lit≤}
+use Rattle.std.proofs.Common.{ℕ, suc, ◌+◌, ◌<◌, ◌≤◌, ◌≡◌, ◌⊎◌, inl, inr, Bool, true, false, List, length, Option, Some, None, Result, Ok, Err, IfOk, IfErr, refl, sym, subst, ◌∙◌, ap, arith, add-zero, lit≤}
 use Rattle.re_terms.specs.declared.token.Token.{Token}
 use Rattle.re_terms.specs.declared.token.Mark.{Mark}
 use Rattle.re_terms.specs.declared.token.Mark.TheVariants as mark
@@ -125,5 +125,13 @@ not_joined : (level : ℕ) (m : Mark) → operator_of m ≡ None → joins level
 not_joined level m none joined = let e = rw none at joined in no_true e
 
 -- no operator is this mark
-pub after_mark : {A V : Type 0} {level : ℕ} {goes_on : Mark → Bool} {m : Mark} {Z : A → Unit {0} → Language V} → operator_of m ≡ None → Follows (joins level) (λ (a : A). Then (Single m) (Z a)) goes_on
-after_mark {level = level} {m = m} none = after_one {first = joins level} (λ f b joined is. not_joined level m none (subst (λ (g : Mark). joins level g ≡ true) is joined))
+pub after_mark : {A V : Type 0} (level : ℕ) {goes_on : Mark → Bool} {m : Mark} {Z : A → Unit {0} → Language V} → operator_of m ≡ None → Follows (joins level) (λ (a : A). Then (Single m) (Z a)) goes_on
+after_mark level {m = m} none = after_one {first = joins level} (λ f b joined is. not_joined level m none (subst (λ (g : Mark). joins level g ≡ true) is joined))
+
+pub ok_map : {A E : Type 0} {P Q : A → Type 0} (r : Result A E) → IfOk r P → ((a : A) → P a → Q a) → IfOk r Q
+ok_map (Ok a) h f = f a h
+ok_map (Err e) h f = tt
+
+pub err_map : {A E : Type 0} {P Q : E → Type 0} (r : Result A E) → IfErr r P → ((e : E) → P e → Q e) → IfErr r Q
+err_map (Ok a) h f = tt
+err_map (Err e) h f = f e h

@@ -142,6 +142,7 @@ pub fn kind_part(tokens: &[Token], i: usize) -> Result<(Kind, usize), Stop>
 }
 
 /// The operator that a sign stands for.
+#[tactic(auto, unfolding(crate::specs::Grammar::operator_of))]
 fn sign_operator(sign: u8) -> Option<Op>
     ensures { result ≡ operator_of (mark.Sign sign) }
 {
@@ -162,6 +163,7 @@ fn sign_operator(sign: u8) -> Option<Op>
 }
 
 /// The operator that a mark stands for behind an operand.
+#[tactic(auto, unfolding(crate::specs::Grammar::operator_of))]
 fn operator_of_mark(mark: &Mark) -> Option<Op>
     ensures { result ≡ operator_of mark.now }
 {

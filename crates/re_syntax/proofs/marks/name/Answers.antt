@@ -1,4 +1,4 @@
-use Rattle.std.proofs.Common.{ℕ, ◌+◌, ◌<◌, ◌≤◌, ◌≡◌, [], length, refl, sym, ap, ◌∙◌, arith}
+use Rattle.std.proofs.Common.{ℕ, ◌≡◌, [], refl, sym, ap, ◌∙◌}
 use Rattle.re_terms.specs.Listed.{Listed, plain}
 use Rattle.re_terms.specs.declared.token.Mark.{Mark}
 use Rattle.re_terms.specs.declared.token.Mark.TheVariants as mark
@@ -20,6 +20,6 @@ no_name t e = cc
 
 pub returns-in_ok-copy-in-Name-clause-ok : goal.returns-in_ok-copy-in-Name-clause-ok
 returns-in_ok-copy-in-Name-clause-ok c =
-    let e = c.in_ok-copy-in-Name.ensures tt in
+    let e = c.in_ok-copy-in-Name.ensures in
     let h = sym c.mark.ensures ∙ c.in-Name.is ∙ ap mark.Name (sym e) in
     one_accepts (λ (m : Mark) (t : Listed ℕ). m ≡ mark.Name t) c.args.tokens.now c.args.i _ c.requires.inside c.requires.ends (λ x. no_name _ x) h (λ w g. same_name _ _ w h g)
