@@ -1,4 +1,4 @@
-use Rattle.std.proofs.Common.{ℕ, suc, ◌+◌, ◌^◌, ◌<◌, ◌≤◌, ◌≡◌, ◌≢◌, ◌⊎◌, inl, inr, Bool, true, false, List, [], ◌∷◌, length, Option, Some, None, ℤ, pos, refl, sym, subst, ◌∙◌, ap, arith, lit≤, lit<}
+use Rattle.std.proofs.Common.{ℕ, suc, ◌+◌, ◌^◌, ◌<◌, ◌≤◌, ◌≡◌, ◌≢◌, ◌⊎◌, inl, inr, Bool, true, false, not, List, [], ◌∷◌, length, Option, Some, None, ℤ, pos, refl, sym, subst, ◌∙◌, ap, arith, lit≤, lit<}
 use Rattle.std.specs.Prelude.{◌-ℤ◌}
 use Rattle.re_terms.specs.Listed.{Listed, plain}
 use Rattle.re_terms.specs.declared.reserved.TheConstants.{IN, TRUE, FALSE, INT, BOOL, SYM, NOT, RECOVER, HAS, FAULT, SIZE, ARG, SELF}
@@ -15,7 +15,7 @@ use Rattle.re_terms.specs.declared.raw_expr.RawExpr.TheVariants as expr
 use Rattle.re_syntax.specs.declared.stop.Stop.TheVariants as stop
 use Rattle.re_syntax.specs.Grammar.{kind_of, Literal, number, negative, truth, falsity, name, Region, unwritten, written, Primary, Reads, literal_, arg, own, brackets, negation, recovery, fault, size, membership}
 use Rattle.re_syntax.specs.Steps.{Language, text, IsEnough, nothing, is_region_word, EndsLast, Accepts, Misses, Unfit, Refusal, Then, One, Done, Single, Named, AKind, FaultCode, ALiteral, ARegion, APhrase, FirstName, OnlyName, KindPart, StartPart}
-use Rattle.re_syntax.proofs.Steps.{Completes, one_completes, done_completes, then_completes, no_true}
+use Rattle.re_syntax.proofs.Steps.{Completes, one_completes, done_completes, then_completes, no_true, so_next, after_nothing}
 use Rattle.re_syntax.proofs.Tokens.{Stage, one_accepts, one_misses}
 use Rattle.re_syntax.proofs.Rules.{clash, same_name, same_number, form, stage_at, moved}
 
@@ -333,3 +333,46 @@ module _ {V : Type 0} (X : Language V) (goes_on : Mark → Bool) (tokens : List 
     | inr early ↦ inr early
     ];
   } }
+
+pub no_end_word : {w : ℕ} {m : Mark} → m ≡ mark.Reserved w → m ≡ mark.End → ⊥
+no_end_word e f = cc
+
+pub no_end_sign : {s : ℕ} {m : Mark} → m ≡ mark.Sign s → m ≡ mark.End → ⊥
+no_end_sign e f = cc
+
+pub inside_next : (tokens : List Token) (i : ℕ) → i < length tokens → EndsLast tokens → (text tokens i ≡ mark.End → ⊥) → i + 1 < length tokens
+inside_next tokens i inside ends h = ends i inside h
+
+pub not_true : {b : Bool} → not b ≡ true → b ≡ false
+not_true {true} h = absurd (no_true h)
+not_true {false} h = refl
+
+pub not_false : {b : Bool} → not b ≡ false → b ≡ true
+not_false {true} h = refl
+not_false {false} h = absurd (no_true (sym h))
+
+same_code : {m : Mark} {a b : ℕ} → m ≡ mark.Number a → m ≡ mark.Number b → b ≡ a
+same_code e f = cc
+
+no_end_number : {n : ℕ} → mark.End ≡ mark.Number n → ⊥
+no_end_number e = cc
+
+pub code_accepts : (tokens : List Token) (i k : ℕ) → i < length tokens → EndsLast tokens → text tokens i ≡ mark.Number k → 100 ≤ k → k ≤ 999 → Accepts FaultCode nothing 0 tokens k i (i + 1)
+code_accepts tokens i k inside ends h low high = one_accepts (λ m code. (m ≡ mark.Number code) × (100 ≤ code) × (code ≤ 999)) tokens i k inside ends (λ e. no_end_number e.0) (h, low, high) (λ u g. same_code h g.0)
+
+pub code_misses : (tokens : List Token) (i : ℕ) → i < length tokens → ((k : ℕ) → text tokens i ≡ mark.Number k → 100 ≤ k → k ≤ 999 → ⊥) → Misses FaultCode nothing tokens i (stop.Unexpected i)
+code_misses tokens i inside none = one_misses (λ m code. (m ≡ mark.Number code) × (100 ≤ code) × (code ≤ 999)) tokens i 100 (mark.Number 100) inside (refl, lit≤ tt, lit≤ tt) (λ k e. none k e.0 e.1 e.2)
+
+-- a literal is at least one mark long
+literal_longer : (other : ℕ → Mark) (v : RawLit) (i n : ℕ) → Literal other v i n → i < n
+literal_longer other _ _ _ (number _ _) = omega arith
+literal_longer other _ _ _ (negative _ _ _) = omega arith
+literal_longer other _ _ _ (truth _) = omega arith
+literal_longer other _ _ _ (falsity _) = omega arith
+literal_longer other _ _ _ (name _) = omega arith
+
+pub next_one_literal : {V : Type 0} {X : Language V} {goes_on : Mark → Bool} {tokens : List Token} {i k k' : ℕ} {Z : RawLit → Language V} {v : RawLit}
+  → Stage X goes_on tokens 1 i k (Then ALiteral Z) → Accepts ALiteral nothing 0 tokens v k k' → Stage X goes_on tokens 0 i k' (Z v)
+next_one_literal {V} {X} {goes_on} {tokens} {i} {k} {k'} {Z} {v} s e =
+    let longer : k < k' = literal_longer (text tokens) v k k' (e.exact.read (λ _. 128) (λ _. lit≤ tt) (text tokens) (λ _ _. refl)) in
+    record { so_far = so_next X goes_on (text tokens) (k + 1) (k' + 0) i k k' ALiteral Z nothing v s.so_far e.exact (omega arith) after_nothing }

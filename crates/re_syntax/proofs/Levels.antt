@@ -1,4 +1,4 @@
-use Rattle.std.proofs.Common.{ℕ, suc, ◌+◌, ◌<◌, ◌≤◌, ◌≡◌, ◌≢◌, ◌⊎◌, inl, inr, Bool, true, false, List, [], ◌∷◌, length, Option, Some, None, pos, refl, sym, subst, ◌∙◌, ap, arith, lit≤, lit<, nat_le}
+use Rattle.std.proofs.Common.{ℕ, suc, ◌+◌, ◌-◌, ◌<◌, ◌≤◌, ◌≡◌, ◌≢◌, ◌⊎◌, inl, inr, Bool, true, false, List, [], ◌∷◌, length, Option, Some, None, pos, refl, sym, subst, ◌∙◌, ap, arith, lit≤, lit<, nat_le}
 use Rattle.re_terms.specs.declared.reserved.TheConstants.{IF, THEN, ELSE, IN}
 use Rattle.re_terms.specs.declared.signs.TheConstants.{COMMA, CLOSE, SEMICOLON}
 use Rattle.re_terms.specs.declared.token.Token.{Token}
@@ -8,9 +8,10 @@ use Rattle.re_terms.specs.declared.expr.Op.{Op}
 use Rattle.re_terms.specs.declared.raw_expr.RawLit.TheVariants as literal
 use Rattle.re_terms.specs.declared.raw_expr.RawExpr.{RawExpr}
 use Rattle.re_terms.specs.declared.raw_expr.RawExpr.TheVariants as expr
+use Rattle.re_syntax.specs.declared.stop.Stop.TheVariants as stop
 use Rattle.re_syntax.specs.Grammar.{operator_of, level_of, Literal, number, negative, truth, falsity, name, Phrase, Expression, Level, Further, Primary, Reads, condition, plain, operands, primary, last, again, once, literal_, arg, own, brackets, negation, recovery, fault, size, membership, Region, unwritten, written}
 use Rattle.re_syntax.specs.Places.{Agrees}
-use Rattle.re_syntax.specs.Steps.{Language, text, IsEnough, nothing, joins, binds_from, extends, is_region_word, Exactly, Accepts, Then, One, Done, Single, ARegion, APhrase, AnExpression}
+use Rattle.re_syntax.specs.Steps.{Language, text, IsEnough, nothing, joins, binds_from, extends, is_region_word, Exactly, Accepts, Stops, StopsBehind, Never, Then, One, Done, Single, ARegion, APhrase, AnExpression}
 use Rattle.re_syntax.proofs.Steps.{SoFar, Completes, Follows, Includes, no_true, so_ends}
 use Rattle.re_syntax.proofs.Tokens.{Stage}
 use Rattle.re_syntax.proofs.Rules.{clash, moved}
@@ -236,3 +237,24 @@ no_in = refl
 pub no_semicolon : extends (mark.Sign SEMICOLON) ≡ false
 unfolding operator_of
 no_semicolon = refl
+
+pub after_done : {V : Type 0} {goes_on : Mark → Bool} (f : RawExpr → V) → Follows goes_on (λ a. Done (f a)) goes_on
+after_done {V} {goes_on} f = record { at_once = λ limit other a v k n j x. (ap goes_on (ap other x.stays) ∙ j, x.stays) }
+
+expression_within : {other : ℕ → Mark} {limit : ℕ → ℕ} {opened : ℕ} {v : RawExpr} {i n : ℕ} → Reads other limit Expression opened v i n → opened ≤ limit i
+expression_within (condition few _ _ _ _ _ _) = few
+expression_within (plain few _) = few
+
+pub too_many : (opened : ℕ) (tokens : List Token) (i : ℕ) → 0 < i → i < length tokens → opened ≡ 128 → StopsBehind (AnExpression (opened + 1)) (joins 0) Never tokens i (stop.TooMany (i - 1))
+too_many opened tokens i behind inside full = let here : i - 1 + 1 ≡ i = omega arith in record { told = (record {
+    reached = omega arith;
+    value = expr.Lit (literal.Int (pos 0));
+    ahead = mark.Number 0 ∷ [];
+    some = lit< tt;
+    begun = λ limit roomy other n agrees holds.
+      let h : other i ≡ mark.Number 0 = subst (λ (q : ℕ). other q ≡ mark.Number 0) here holds.0 in
+      let few : 129 ≤ limit i = roomy.behind i (omega arith) in
+      let far : i + 1 ≡ n = omega (arith, holds.1) in
+      subst (λ (q : ℕ). Reads other limit Expression (opened + 1) (expr.Lit (literal.Int (pos 0))) i q) far (plain (omega arith) (zero_level (opened + 1) limit other i h));
+    ended = λ limit under other w m agrees x. absurd (let few : opened + 1 ≤ limit i = expression_within x in let most : limit i ≤ 128 = under i (omega arith) in omega arith);
+  }, omega arith, λ s d. d) }

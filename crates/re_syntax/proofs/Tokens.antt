@@ -1,12 +1,12 @@
-use Rattle.std.proofs.Common.{ℕ, suc, ◌+◌, ◌<◌, ◌≤◌, ◌≡◌, ◌⊎◌, inl, inr, Bool, true, false, List, length, Option, Some, None, Result, Ok, Err, IfOk, IfErr, refl, sym, subst, ◌∙◌, ap, arith, add-zero, lit≤}
+use Rattle.std.proofs.Common.{ℕ, suc, ◌+◌, ◌<◌, ◌≤◌, ◌≡◌, ◌⊎◌, inl, inr, Bool, true, false, List, length, Option, Some, None, Result, Ok, Err, IfOk, IfErr, MatchOption, refl, sym, subst, ◌∙◌, ap, arith, add-zero, lit≤}
 use Rattle.re_terms.specs.declared.token.Token.{Token}
 use Rattle.re_terms.specs.declared.token.Mark.{Mark}
 use Rattle.re_terms.specs.declared.token.Mark.TheVariants as mark
 use Rattle.re_syntax.specs.declared.stop.Stop.{Stop}
 use Rattle.re_syntax.specs.declared.stop.Stop.TheVariants as stop
 use Rattle.re_syntax.specs.Grammar.{operator_of}
-use Rattle.re_syntax.specs.Steps.{Language, text, IsEnough, nothing, joins, EndsLast, Exactly, Refusal, Accepts, Stops, Misses, Then, One, Done, Single, Unfit, Beyond}
-use Rattle.re_syntax.proofs.Steps.{SoFar, so_start, so_ends, so_stops, so_next, so_fails, one_exact, one_refused, done_exact, never_more, no_true, after_one, Completes, Follows, Includes}
+use Rattle.re_syntax.specs.Steps.{Language, text, IsEnough, nothing, joins, EndsLast, Exactly, Refusal, Accepts, Stops, StopsBehind, Misses, Then, One, Done, Single, Unfit, Beyond}
+use Rattle.re_syntax.proofs.Steps.{no_more, SoFar, so_start, so_ends, so_stops, so_next, so_fails, one_exact, one_refused, done_exact, never_more, no_true, after_one, Completes, Follows, Includes}
 
 pub one_accepts : {V : Type 0} (P : Mark → V → Type 0) (tokens : List Token) (i : ℕ) (v : V) → i < length tokens → EndsLast tokens → (P mark.End v → ⊥)
   → P (text tokens i) v → ((w : V) → P (text tokens i) w → w ≡ v) → Accepts (One P) nothing 0 tokens v i (i + 1)
@@ -90,38 +90,53 @@ misses_last (stop.TooDeep j) g r h f = absurd r.told
 
 pub stops_of_misses : {V : Type 0} {X : Language V} {goes_on : Mark → Bool} {Deep : ℕ → Type 0} {tokens : List Token} {i : ℕ} (s : Stop)
   → Misses X goes_on tokens i s → ((j : ℕ) → Deep j → ⊥) → Stops X goes_on Deep tokens i s
-stops_of_misses stop.Memory r none = record { told = tt }
-stops_of_misses (stop.Unexpected j) r none = record { told = (r.told.0, r.told.1, none) }
+stops_of_misses stop.Memory r none = record { told = tt; within = tt }
+stops_of_misses (stop.Unexpected j) r none = record { told = (r.told.0, r.told.1, none); within = tt }
 stops_of_misses (stop.TooMany j) r none = absurd r.told
 stops_of_misses (stop.TooDeep j) r none = absurd r.told
 
 -- the next phrase is refused
-pub stops_in : {A V : Type 0} {X : Language V} {goes_on ends : Mark → Bool} {Inner Outer : ℕ → Type 0} {tokens : List Token} {i k : ℕ} {Y : Language A} {Z : A → Language V} (s : Stop)
-  → Stage X goes_on tokens 0 i k (Then Y Z) → Stops Y ends Inner tokens k s → Follows ends Z goes_on → ((a : A) → Completes (Z a))
+pub stops_in : {A V : Type 0} {X : Language V} {goes_on ends : Mark → Bool} {Inner Outer : ℕ → Type 0} {tokens : List Token} {ahead i k : ℕ} {Y : Language A} {Z : A → Language V} (s : Stop)
+  → Stage X goes_on tokens ahead i k (Then Y Z) → Stops Y ends Inner tokens k s → ahead ≤ 1 → Follows ends Z goes_on → ((a : A) → Completes (Z a))
   → ((j : ℕ) → Inner j → Outer j) → ((j : ℕ) → Outer j → Inner j) → Stops X goes_on Outer tokens i s
-stops_in stop.Memory g r f c up down = record { told = tt }
-stops_in {A} {V} {X} {goes_on} {ends} {Inner} {Outer} {tokens} {i} {k} {Y} {Z} (stop.Unexpected j) g r f c up down =
+stops_in stop.Memory g r h f c up down = record { told = tt; within = tt }
+stops_in {A} {V} {X} {goes_on} {ends} {Inner} {Outer} {tokens} {ahead} {i} {k} {Y} {Z} (stop.Unexpected j) g r h f c up down =
     let reached : k ≤ j = r.told.0.reached in
-    record { told = (so_fails X goes_on (text tokens) (k + 0) i k j Unfit Y Z ends g.so_far r.told.0 (omega arith) f c, r.told.1, λ n deep. r.told.2 n (down n deep)) }
-stops_in {A} {V} {X} {goes_on} {ends} {Inner} {Outer} {tokens} {i} {k} {Y} {Z} (stop.TooMany j) g r f c up down =
+    record { told = (so_fails X goes_on (text tokens) (k + ahead) i k j Unfit Y Z ends g.so_far r.told.0 (omega arith) f c, r.told.1, λ n deep. r.told.2 n (down n deep)); within = tt }
+stops_in {A} {V} {X} {goes_on} {ends} {Inner} {Outer} {tokens} {ahead} {i} {k} {Y} {Z} (stop.TooMany j) g r h f c up down =
+    let reached : k ≤ j = r.within in
+    let forward : i ≤ k = g.so_far.forward in
+    record { told = (so_fails X goes_on (text tokens) (k + ahead) i k j Beyond Y Z ends g.so_far r.told.0 (omega arith) f c, r.told.1, λ n deep. r.told.2 n (down n deep)); within = omega arith }
+stops_in (stop.TooDeep j) g r h f c up down = record { told = (up j r.told.0, r.told.1); within = tt }
+
+-- the next phrase, which a mark behind the start opens, is refused
+pub stops_behind : {A V : Type 0} {X : Language V} {goes_on ends : Mark → Bool} {Inner Outer : ℕ → Type 0} {tokens : List Token} {i k : ℕ} {Y : Language A} {Z : A → Language V} (s : Stop)
+  → Stage X goes_on tokens 0 i k (Then Y Z) → StopsBehind Y ends Inner tokens k s → i < k → Follows ends Z goes_on → ((a : A) → Completes (Z a))
+  → ((j : ℕ) → Inner j → Outer j) → ((j : ℕ) → Outer j → Inner j) → Stops X goes_on Outer tokens i s
+stops_behind stop.Memory g r h f c up down = record { told = tt; within = tt }
+stops_behind {A} {V} {X} {goes_on} {ends} {Inner} {Outer} {tokens} {i} {k} {Y} {Z} (stop.Unexpected j) g r h f c up down =
+    let reached : k ≤ j = r.told.0.reached in
+    record { told = (so_fails X goes_on (text tokens) (k + 0) i k j Unfit Y Z ends g.so_far r.told.0 (omega arith) f c, r.told.1, λ n deep. r.told.2 n (down n deep)); within = tt }
+stops_behind {A} {V} {X} {goes_on} {ends} {Inner} {Outer} {tokens} {i} {k} {Y} {Z} (stop.TooMany j) g r h f c up down =
     let reached : k ≤ j + 1 = r.told.0.reached in
-    record { told = (so_fails X goes_on (text tokens) (k + 0) i k j Beyond Y Z ends g.so_far r.told.0 (omega arith) f c, r.told.1, λ n deep. r.told.2 n (down n deep)) }
-stops_in (stop.TooDeep j) g r f c up down = record { told = (up j r.told.0, r.told.1) }
+    record { told = (so_fails X goes_on (text tokens) (k + 0) i k j Beyond Y Z ends g.so_far r.told.0 (omega arith) f c, r.told.1, λ n deep. r.told.2 n (down n deep)); within = omega arith }
+stops_behind (stop.TooDeep j) g r h f c up down = record { told = (up j r.told.0, r.told.1); within = tt }
 
 -- the last phrase is refused
-pub stops_last : {V : Type 0} {X : Language V} {goes_on ends : Mark → Bool} {Inner Outer : ℕ → Type 0} {tokens : List Token} {i k : ℕ} {R : Language V} (s : Stop)
-  → Stage X goes_on tokens 0 i k R → Stops R ends Inner tokens k s → Includes ends goes_on
+pub stops_last : {V : Type 0} {X : Language V} {goes_on ends : Mark → Bool} {Inner Outer : ℕ → Type 0} {tokens : List Token} {ahead i k : ℕ} {R : Language V} (s : Stop)
+  → Stage X goes_on tokens ahead i k R → Stops R ends Inner tokens k s → ahead ≤ 1 → Includes ends goes_on
   → ((j : ℕ) → Inner j → Outer j) → ((j : ℕ) → Outer j → Inner j) → Stops X goes_on Outer tokens i s
-stops_last stop.Memory g r f up down = record { told = tt }
-stops_last {V} {X} {goes_on} {ends} {Inner} {Outer} {tokens} {i} {k} {R} (stop.Unexpected j) g r f up down =
+stops_last stop.Memory g r h f up down = record { told = tt; within = tt }
+stops_last {V} {X} {goes_on} {ends} {Inner} {Outer} {tokens} {ahead} {i} {k} {R} (stop.Unexpected j) g r h f up down =
     let reached : k ≤ j = r.told.0.reached in
-    record { told = (so_stops X goes_on (text tokens) (k + 0) i k j Unfit R ends g.so_far r.told.0 (omega arith) f, r.told.1, λ n deep. r.told.2 n (down n deep)) }
-stops_last {V} {X} {goes_on} {ends} {Inner} {Outer} {tokens} {i} {k} {R} (stop.TooMany j) g r f up down =
-    let reached : k ≤ j + 1 = r.told.0.reached in
-    record { told = (so_stops X goes_on (text tokens) (k + 0) i k j Beyond R ends g.so_far r.told.0 (omega arith) f, r.told.1, λ n deep. r.told.2 n (down n deep)) }
-stops_last (stop.TooDeep j) g r f up down = record { told = (up j r.told.0, r.told.1) }
+    record { told = (so_stops X goes_on (text tokens) (k + ahead) i k j Unfit R ends g.so_far r.told.0 (omega arith) f, r.told.1, λ n deep. r.told.2 n (down n deep)); within = tt }
+stops_last {V} {X} {goes_on} {ends} {Inner} {Outer} {tokens} {ahead} {i} {k} {R} (stop.TooMany j) g r h f up down =
+    let reached : k ≤ j = r.within in
+    let forward : i ≤ k = g.so_far.forward in
+    record { told = (so_stops X goes_on (text tokens) (k + ahead) i k j Beyond R ends g.so_far r.told.0 (omega arith) f, r.told.1, λ n deep. r.told.2 n (down n deep)); within = omega arith }
+stops_last (stop.TooDeep j) g r h f up down = record { told = (up j r.told.0, r.told.1); within = tt }
 
-not_joined : (level : ℕ) (m : Mark) → operator_of m ≡ None → joins level m ≡ true → ⊥
+pub not_joined : (level : ℕ) (m : Mark) → operator_of m ≡ None → joins level m ≡ true → ⊥
 not_joined level m none joined = let e = rw none at joined in no_true e
 
 -- no operator is this mark
@@ -135,3 +150,18 @@ ok_map (Err e) h f = tt
 pub err_map : {A E : Type 0} {P Q : E → Type 0} (r : Result A E) → IfErr r P → ((e : E) → P e → Q e) → IfErr r Q
 err_map (Ok a) h f = tt
 err_map (Err e) h f = f e h
+
+pub none_of : {A : Type 0} {P : Type 0} {Q : A → Type 0} (r : Option A) → MatchOption r P Q → ((x : A) → r ≡ Some x → ⊥) → P
+none_of None h f = h
+none_of (Some x) h f = absurd (f x refl)
+
+-- a phrase stands for a whole
+pub accepts_from : {V : Type 0} {X R : Language V} {goes_on : Mark → Bool} {tokens : List Token} {i n : ℕ} {v : V}
+  → SoFar X goes_on (text tokens) (i + 1) i i R → Accepts R goes_on 1 tokens v i n → Accepts X goes_on 1 tokens v i n
+accepts_from {V} {X} {R} {goes_on} {tokens} {i} {n} {v} s e =
+    let forward : i ≤ n = e.exact.forward in
+    record { exact = so_ends X goes_on (text tokens) (i + 1) (n + 1) i i n v R goes_on s e.exact (omega arith) no_more; inside = e.inside }
+
+pub stops_from : {V : Type 0} {X R : Language V} {goes_on : Mark → Bool} {Deep : ℕ → Type 0} {tokens : List Token} {i : ℕ} (s : Stop)
+  → SoFar X goes_on (text tokens) (i + 1) i i R → Stops R goes_on Deep tokens i s → Stops X goes_on Deep tokens i s
+stops_from s g r = stops_last {ahead = 1} s (record { so_far = g }) r (lit≤ tt) no_more (λ j d. d) (λ j d. d)

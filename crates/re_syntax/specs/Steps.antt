@@ -115,7 +115,17 @@ StopAnswer X goes_on Deep tokens i (stop.Unexpected j) = Refusal X goes_on (text
 StopAnswer X goes_on Deep tokens i (stop.TooMany j) = Refusal X goes_on (text tokens) Beyond i j × (j < length tokens) × ((s : ℕ) → Deep s → ⊥)
 StopAnswer X goes_on Deep tokens i (stop.TooDeep j) = Deep j × (j < length tokens)
 
+-- the mark that opens one expression too many isn't before this place
+abbrev pub IsNotBefore : ℕ → Stop → Type 0
+IsNotBefore i (stop.TooMany j) = i ≤ j
+IsNotBefore i s = Unit {0}
+
 pub record Stops {V : Type 0} (X : Language V) (goes_on : Mark → Bool) (Deep : ℕ → Type 0) (tokens : List Token) (i : ℕ) (s : Stop) : Type 0 where
+  pub told : StopAnswer X goes_on Deep tokens i s
+  pub within : IsNotBefore i s
+
+-- the same of a step whose first mark may be the one behind the refused one, which opens it
+pub record StopsBehind {V : Type 0} (X : Language V) (goes_on : Mark → Bool) (Deep : ℕ → Type 0) (tokens : List Token) (i : ℕ) (s : Stop) : Type 0 where
   pub told : StopAnswer X goes_on Deep tokens i s
 
 -- a step that looks at `ahead` marks behind what it read

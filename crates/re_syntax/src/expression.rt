@@ -3,7 +3,7 @@ ghost use Rattle.std.specs.Prelude.{◌≡◌, ℕ, ◌+◌, ◌<◌, ◌≤◌,
 ghost use Rattle.re_terms.specs.declared.token.Mark.TheVariants as mark;
 ghost use Rattle.re_terms.specs.Trees.{raw_depth};
 ghost use Rattle.re_syntax.specs.Grammar.{Primary, Level, Expression};
-ghost use Rattle.re_syntax.specs.Steps.{text, EndsLast, Accepts, Finds, Stops, Never, nothing, joins, APhrase, AnExpression, DeepAt};
+ghost use Rattle.re_syntax.specs.Steps.{text, EndsLast, Accepts, Finds, Stops, StopsBehind, Never, nothing, joins, APhrase, AnExpression, DeepAt};
 
 use crate::keeping::{binary, choice, membership, negation, recovery};
 use crate::kept::Kept;
@@ -32,7 +32,7 @@ fn inner(alloc: Global, tokens: &[Token], i: usize, opened: u8) -> Result<(Kept,
     requires behind { 0 < i }
     requires opened { opened ≤ 128 }
     ensures ok { IfOk result (λ r. Finds (AnExpression (opened + 1)) (joins 0) tokens.now r.0 i r.1) }
-    ensures stop { IfErr result (λ s. Stops (AnExpression (opened + 1)) (joins 0) Never tokens.now i s) }
+    ensures stop { IfErr result (λ s. StopsBehind (AnExpression (opened + 1)) (joins 0) Never tokens.now i s) }
 {
     if opened == MOST_OPEN {
         return Err(Stop::TooMany(i - 1));

@@ -54,50 +54,59 @@ pub fn membership(alloc: Global, set: Text, element: Kept) -> Result<Kept, Alloc
 pub fn binary(alloc: Global, op: Op, left: Kept, right: Kept) -> Result<Kept, AllocError>
     ensures { IfOk result (λ k. (a b : RawExpr) → Stands left a → Stands right b → Stands k (expr.Bin op a b)) }
 {
-    match (left, right) {
-        (Kept::Whole(a, m), Kept::Whole(b, n)) if m.max(n) < DEEPEST => Ok(Kept::Whole(
-            RawExpr::Bin {
-                op,
-                left: Boxed::new(alloc, a)?,
-                right: Boxed::new(alloc, b)?,
-            },
-            m.max(n) + 1,
-        )),
-        _ => Ok(Kept::TooDeep),
+    let Kept::Whole(a, m) = left else {
+        return Ok(Kept::TooDeep);
+    };
+    let Kept::Whole(b, n) = right else {
+        return Ok(Kept::TooDeep);
+    };
+    let depth = m.max(n);
+    if depth >= DEEPEST {
+        return Ok(Kept::TooDeep);
     }
+    let left = Boxed::new(alloc, a)?;
+    let right = Boxed::new(alloc, b)?;
+    Ok(Kept::Whole(RawExpr::Bin { op, left, right }, depth + 1))
 }
 
 /// An expression, and another for its fault.
 pub fn recovery(alloc: Global, tried: Kept, other: Kept) -> Result<Kept, AllocError>
     ensures { IfOk result (λ k. (a b : RawExpr) → Stands tried a → Stands other b → Stands k (expr.Recover a b)) }
 {
-    match (tried, other) {
-        (Kept::Whole(a, m), Kept::Whole(b, n)) if m.max(n) < DEEPEST => Ok(Kept::Whole(
-            RawExpr::Recover {
-                tried: Boxed::new(alloc, a)?,
-                other: Boxed::new(alloc, b)?,
-            },
-            m.max(n) + 1,
-        )),
-        _ => Ok(Kept::TooDeep),
+    let Kept::Whole(a, m) = tried else {
+        return Ok(Kept::TooDeep);
+    };
+    let Kept::Whole(b, n) = other else {
+        return Ok(Kept::TooDeep);
+    };
+    let depth = m.max(n);
+    if depth >= DEEPEST {
+        return Ok(Kept::TooDeep);
     }
+    let tried = Boxed::new(alloc, a)?;
+    let other = Boxed::new(alloc, b)?;
+    Ok(Kept::Whole(RawExpr::Recover { tried, other }, depth + 1))
 }
 
 /// A choice of two expressions.
 pub fn choice(alloc: Global, cond: Kept, yes: Kept, no: Kept) -> Result<Kept, AllocError>
     ensures { IfOk result (λ k. (c a b : RawExpr) → Stands cond c → Stands yes a → Stands no b → Stands k (expr.If c a b)) }
 {
-    match (cond, yes, no) {
-        (Kept::Whole(c, l), Kept::Whole(a, m), Kept::Whole(b, n)) if l.max(m.max(n)) < DEEPEST => {
-            Ok(Kept::Whole(
-                RawExpr::If {
-                    cond: Boxed::new(alloc, c)?,
-                    yes: Boxed::new(alloc, a)?,
-                    no: Boxed::new(alloc, b)?,
-                },
-                l.max(m.max(n)) + 1,
-            ))
-        }
-        _ => Ok(Kept::TooDeep),
+    let Kept::Whole(c, l) = cond else {
+        return Ok(Kept::TooDeep);
+    };
+    let Kept::Whole(a, m) = yes else {
+        return Ok(Kept::TooDeep);
+    };
+    let Kept::Whole(b, n) = no else {
+        return Ok(Kept::TooDeep);
+    };
+    let depth = l.max(m.max(n));
+    if depth >= DEEPEST {
+        return Ok(Kept::TooDeep);
     }
+    let cond = Boxed::new(alloc, c)?;
+    let yes = Boxed::new(alloc, a)?;
+    let no = Boxed::new(alloc, b)?;
+    Ok(Kept::Whole(RawExpr::If { cond, yes, no }, depth + 1))
 }

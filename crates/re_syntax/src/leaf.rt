@@ -1,5 +1,5 @@
 //! Literals, and expressions without operands.
-ghost use Rattle.std.specs.Prelude.{◌≡◌, ℕ, ◌+◌, ◌<◌, ◌≤◌, length, IfOk, IfErr, MatchOption};
+ghost use Rattle.std.specs.Prelude.{◌≡◌, ℕ, ◌+◌, ◌<◌, ◌≤◌, ◌^◌, pos, ◌-ℤ◌, length, IfOk, IfErr, MatchOption};
 ghost use Rattle.re_terms.specs.declared.token.Mark.TheVariants as mark;
 ghost use Rattle.re_terms.specs.declared.reserved.TheConstants.{NOT, RECOVER, HAS};
 ghost use Rattle.re_terms.specs.declared.signs.TheConstants.{OPEN};
@@ -15,6 +15,12 @@ use re_terms::signs::{CLOSE, MINUS, OPEN};
 use re_terms::{Mark, RawExpr, RawLit, Token, TryCopy};
 use std::alloc::Global;
 
+/// The greatest number that may stand behind `-`.
+const MOST_NEGATED: u64 = 9223372036854775808;
+
+/// The greatest number that may stand without `-`.
+const MOST_PLAIN: u64 = 9223372036854775807;
+
 /// The number of a token, if it is one.
 fn number(tokens: &[Token], i: usize) -> Option<u64>
     requires { i < length tokens.now }
@@ -26,6 +32,39 @@ fn number(tokens: &[Token], i: usize) -> Option<u64>
     }
 }
 
+/// The number of a token, if it is one in this range.
+fn number_within(tokens: &[Token], i: usize, least: u64, most: u64) -> Option<u64>
+    requires { i < length tokens.now }
+    ensures { MatchOption result
+        ((n : ℕ) → text tokens.now i ≡ mark.Number n → least ≤ n → n ≤ most → ⊥)
+        (λ n. (text tokens.now i ≡ mark.Number n) × (least ≤ n) × (n ≤ most)) }
+{
+    match number(tokens, i) {
+        Some(n) => {
+            if n < least {
+                None
+            } else if n > most {
+                None
+            } else {
+                Some(n)
+            }
+        }
+        None => None,
+    }
+}
+
+/// The negative of a number.
+fn negated(n: u64) -> i64
+    requires { n ≤ 2 ^ 63 }
+    ensures { result ≡ pos 0 -ℤ pos n }
+{
+    if n == MOST_NEGATED {
+        i64::MIN
+    } else {
+        -(n as i64)
+    }
+}
+
 /// Reads a number behind `-`.
 fn negative(tokens: &[Token], i: usize) -> Result<(RawLit, usize), Stop>
     requires inside { i < length tokens.now }
@@ -34,10 +73,28 @@ fn negative(tokens: &[Token], i: usize) -> Result<(RawLit, usize), Stop>
     ensures ok { IfOk result (λ r. Accepts ALiteral nothing 0 tokens.now r.0 i r.1) }
     ensures stop { IfErr result (λ s. Misses ALiteral nothing tokens.now i s) }
 {
-    match number(tokens, i + 1) {
-        Some(9223372036854775808) => Ok((RawLit::Int(i64::MIN), i + 2)),
-        Some(n) if n < 9223372036854775808 => Ok((RawLit::Int(-(n as i64)), i + 2)),
-        _ => Err(Stop::Unexpected(i + 1)),
+    match number_within(tokens, i + 1, 0, MOST_NEGATED) {
+        Some(n) => Ok((RawLit::Int(negated(n)), i + 2)),
+        None => Err(Stop::Unexpected(i + 1)),
+    }
+}
+
+/// Reads a number or a name.
+fn plain_literal(alloc: Global, tokens: &[Token], i: usize) -> Result<(RawLit, usize), Stop>
+    requires inside { i < length tokens.now }
+    requires ends { EndsLast tokens.now }
+    requires minus { text tokens.now i ≡ mark.Sign MINUS → ⊥ }
+    requires truth { text tokens.now i ≡ mark.Reserved TRUE → ⊥ }
+    requires falsity { text tokens.now i ≡ mark.Reserved FALSE → ⊥ }
+    ensures ok { IfOk result (λ r. Accepts ALiteral nothing 0 tokens.now r.0 i r.1) }
+    ensures stop { IfErr result (λ s. Misses ALiteral nothing tokens.now i s) }
+{
+    if let Mark::Name(name) = mark(tokens, i) {
+        return Ok((RawLit::Name(name.copy(alloc)?), i + 1));
+    }
+    match number_within(tokens, i, 0, MOST_PLAIN) {
+        Some(n) => Ok((RawLit::Int(n as i64), i + 1)),
+        None => Err(Stop::Unexpected(i)),
     }
 }
 
@@ -57,11 +114,7 @@ pub fn literal(alloc: Global, tokens: &[Token], i: usize) -> Result<(RawLit, usi
     if is_word(tokens, i, FALSE) {
         return Ok((RawLit::Bool(false), i + 1));
     }
-    match mark(tokens, i) {
-        Mark::Number(n) if *n < 9223372036854775808 => Ok((RawLit::Int(*n as i64), i + 1)),
-        Mark::Name(name) => Ok((RawLit::Name(name.copy(alloc)?), i + 1)),
-        _ => Err(Stop::Unexpected(i)),
-    }
+    plain_literal(alloc, tokens, i)
 }
 
 /// Reads a region, which may be left out.
@@ -74,9 +127,9 @@ pub fn region(tokens: &[Token], i: usize) -> Result<(u8, usize), Stop>
     if !is_word(tokens, i, IN) {
         return Ok((1, i));
     }
-    match number(tokens, i + 1) {
-        Some(n) if n >= 1 && n <= 4 => Ok((n as u8, i + 2)),
-        _ => Err(Stop::Unexpected(i + 1)),
+    match number_within(tokens, i + 1, 1, 4) {
+        Some(n) => Ok((n as u8, i + 2)),
+        None => Err(Stop::Unexpected(i + 1)),
     }
 }
 
@@ -87,9 +140,9 @@ fn fault_code(tokens: &[Token], i: usize) -> Result<(u32, usize), Stop>
     ensures ok { IfOk result (λ r. Accepts FaultCode nothing 0 tokens.now r.0 i r.1) }
     ensures stop { IfErr result (λ s. Misses FaultCode nothing tokens.now i s) }
 {
-    match number(tokens, i) {
-        Some(n) if n >= 100 && n <= 999 => Ok((n as u32, i + 1)),
-        _ => Err(Stop::Unexpected(i)),
+    match number_within(tokens, i, 100, 999) {
+        Some(n) => Ok((n as u32, i + 1)),
+        None => Err(Stop::Unexpected(i)),
     }
 }
 
