@@ -10,9 +10,11 @@ use Rattle.re_terms.specs.declared.token.Mark.TheVariants as mark
 use Rattle.re_terms.specs.declared.raw_expr.RawExpr.{RawExpr}
 use Rattle.re_syntax.specs.declared.stop.Stop.{Stop}
 use Rattle.re_syntax.specs.declared.stop.Stop.TheVariants as stop
+use Rattle.re_syntax.specs.declared.kept.Kept.{Kept}
+use Rattle.re_syntax.specs.declared.kept.Kept.TheVariants as kept
 use Rattle.re_syntax.specs.Grammar.{marks_of, mark_at, Expression, Reads}
 use Rattle.re_syntax.specs.Places.{Agrees, IsDeep, open_limit}
-use Rattle.re_syntax.specs.Steps.{Language, text, Holds, IsEnough, IsRoomy, nothing, joins, Cause, Unfit, Beyond, fitting, IsRefusedUnder, Exactly, Refusal, Accepts, Stops, Misses, Never, Then, One, Done, APhrase, AnExpression, DeepAt}
+use Rattle.re_syntax.specs.Steps.{Language, text, Holds, IsEnough, IsRoomy, nothing, joins, Cause, Unfit, Beyond, fitting, IsRefusedUnder, Exactly, Refusal, Accepts, Finds, Stands, Stops, Misses, Never, Then, One, Done, APhrase, AnExpression, DeepAt}
 use Rattle.re_syntax.proofs.Steps.{Completes, no_true, after_nothing}
 use Rattle.re_syntax.proofs.Tokens.{Stage, misses_in}
 
@@ -90,3 +92,22 @@ misses_deep {A} {V} {X} {goes_on} {Deep} {tokens} {ahead} {i} {k} {Y} {Z} (stop.
     record { told = (m.told.0, m.told.1, λ n d. let y = reads n d in no_true (r.told.0.ended open_limit tt (text tokens) y.0 y.1 (λ _ _. refl) y.2).0); within = tt }
 misses_deep (stop.TooMany j) g r h c reads = absurd r.told
 misses_deep (stop.TooDeep j) g r h c reads = absurd r.told
+
+-- the answer for a whole expression
+
+pub whole_accepts : (tokens : List Token) (i n : ℕ) (k : Kept) (tree : RawExpr) (depth : ℕ) → Finds (AnExpression 1) (joins 0) tokens k i n → k ≡ kept.Whole tree depth → Accepts (AnExpression 1) (joins 0) 1 tokens tree i n
+whole_accepts tokens i n k tree depth f e =
+    let s = subst (λ (q : Kept). Stands q f.expression) e f.stands in
+    subst (λ (x : RawExpr). Accepts (AnExpression 1) (joins 0) 1 tokens x i n) (sym s.0) f.accepts
+
+pub whole_depth : (tokens : List Token) (i n : ℕ) (k : Kept) (tree : RawExpr) (depth : ℕ) → Finds (AnExpression 1) (joins 0) tokens k i n → k ≡ kept.Whole tree depth → raw_depth tree ≤ 64
+whole_depth tokens i n k tree depth f e =
+    let s = subst (λ (q : Kept). Stands q f.expression) e f.stands in
+    let d : raw_depth tree ≡ depth = ap raw_depth s.0 ∙ s.1 in
+    let b : depth ≤ 64 = s.2 in
+    omega arith
+
+pub too_deep_stops : (tokens : List Token) (i n : ℕ) (k : Kept) → i < length tokens → Finds (AnExpression 1) (joins 0) tokens k i n → k ≡ kept.TooDeep → Stops (AnExpression 1) (joins 0) (DeepAt tokens i) tokens i (stop.TooDeep i)
+too_deep_stops tokens i n k inside f e =
+    let s = subst (λ (q : Kept). Stands q f.expression) e f.stands in
+    record { told = ((refl, deep_at tokens f.expression i n f.accepts s), inside); within = tt }

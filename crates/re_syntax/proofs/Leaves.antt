@@ -343,14 +343,6 @@ no_end_sign e f = cc
 pub inside_next : (tokens : List Token) (i : ℕ) → i < length tokens → EndsLast tokens → (text tokens i ≡ mark.End → ⊥) → i + 1 < length tokens
 inside_next tokens i inside ends h = ends i inside h
 
-pub not_true : {b : Bool} → not b ≡ true → b ≡ false
-not_true {true} h = absurd (no_true h)
-not_true {false} h = refl
-
-pub not_false : {b : Bool} → not b ≡ false → b ≡ true
-not_false {true} h = refl
-not_false {false} h = absurd (no_true (sym h))
-
 same_code : {m : Mark} {a b : ℕ} → m ≡ mark.Number a → m ≡ mark.Number b → b ≡ a
 same_code e f = cc
 

@@ -151,9 +151,9 @@ pub err_map : {A E : Type 0} {P Q : E → Type 0} (r : Result A E) → IfErr r P
 err_map (Ok a) h f = tt
 err_map (Err e) h f = f e h
 
-pub none_of : {A : Type 0} {P : Type 0} {Q : A → Type 0} (r : Option A) → MatchOption r P Q → ((x : A) → r ≡ Some x → ⊥) → P
-none_of None h f = h
-none_of (Some x) h f = absurd (f x refl)
+pub none_of : {A : Type 0} (P : Type 0) (Q : A → Type 0) (r : Option A) → MatchOption r P Q → ((x : A) → r ≡ Some x → ⊥) → P
+none_of P Q None h f = h
+none_of P Q (Some x) h f = absurd (f x refl)
 
 -- a phrase stands for a whole
 pub accepts_from : {V : Type 0} {X R : Language V} {goes_on : Mark → Bool} {tokens : List Token} {i n : ℕ} {v : V}

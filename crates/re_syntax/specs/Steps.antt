@@ -1,6 +1,6 @@
 -- What one step of reading answers: exactly a phrase, or the place of a refusal, whatever stands behind what was seen.
 -- Read against: from `1 + ;` a sum is refused at place 2, since `1 + 0` is one and each that begins `1 + ;` ends before `+`.
-use Rattle.std.specs.Prelude.{ℕ, ◌+◌, ◌<◌, ◌≤◌, ◌==◌, ◌≡◌, ◌⊎◌, ◌||◌, Bool, true, false, List, [], ◌∷◌, length, Option, Some, None, nat_le}
+use Rattle.std.specs.Prelude.{ℕ, ◌+◌, ◌<◌, ◌≤◌, ◌==◌, ◌≡◌, ◌⊎◌, ◌||◌, Bool, true, false, List, [], ◌∷◌, length, Option, Some, None, nat_le, max}
 use Rattle.re_terms.specs.Trees.{raw_depth}
 use Rattle.re_terms.specs.Listed.{Listed}
 use Rattle.re_terms.specs.declared.reserved.TheConstants.{IN}
@@ -17,6 +17,8 @@ use Rattle.re_syntax.specs.declared.stop.Stop.{Stop}
 use Rattle.re_syntax.specs.declared.stop.Stop.TheVariants as stop
 use Rattle.re_syntax.specs.declared.kept.Kept.{Kept}
 use Rattle.re_syntax.specs.declared.kept.Kept.TheVariants as kept
+use Rattle.re_syntax.specs.declared.kept.Branches.{Branches}
+use Rattle.re_syntax.specs.declared.kept.Branches.TheVariants as branches
 use Rattle.re_syntax.specs.Grammar.{marks_of, mark_at, kind_of, operator_of, level_of, Literal, Region, Phrase, Expression, Reads, Source, Content, Declaration}
 use Rattle.re_terms.specs.declared.signs.TheConstants.{COLON, EQUALS, COMMA, OPEN, CLOSE}
 use Rattle.re_syntax.specs.Places.{Agrees, IsDeep, SourceHead, ContentHead, Head}
@@ -145,6 +147,11 @@ Never j = ⊥
 abbrev pub Stands : Kept → RawExpr → Type 0
 Stands (kept.Whole tree depth) e = (tree ≡ e) × (raw_depth e ≡ depth) × (depth ≤ 64)
 Stands kept.TooDeep e = 64 < raw_depth e
+
+-- the branches of a choice that a reader keeps or has given up
+abbrev pub AreBranches : Branches → RawExpr → RawExpr → Type 0
+AreBranches (branches.Whole yes no depth) a b = (yes ≡ a) × (no ≡ b) × (max (raw_depth a) (raw_depth b) ≡ depth) × (depth ≤ 64)
+AreBranches branches.TooDeep a b = 64 < max (raw_depth a) (raw_depth b)
 
 -- some expression was read, as far as it is kept
 pub record Finds (X : Language RawExpr) (goes_on : Mark → Bool) (tokens : List Token) (k : Kept) (i n : ℕ) : Type 0 where

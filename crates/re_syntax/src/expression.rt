@@ -5,7 +5,7 @@ ghost use Rattle.re_terms.specs.Trees.{raw_depth};
 ghost use Rattle.re_syntax.specs.Grammar.{Primary, Level, Expression};
 ghost use Rattle.re_syntax.specs.Steps.{text, EndsLast, Accepts, Finds, Stops, StopsBehind, Never, nothing, joins, APhrase, AnExpression, DeepAt};
 
-use crate::keeping::{binary, choice, membership, negation, recovery};
+use crate::keeping::{binary, branches, choice, membership, negation, recovery};
 use crate::kept::Kept;
 use crate::leaf::read_leaf;
 use crate::marks::{first_name, is_sign, is_word, operator, sign, word};
@@ -75,7 +75,8 @@ fn condition(alloc: Global, tokens: &[Token], i: usize, opened: u8) -> Result<(K
     let (yes, chosen) = inner(alloc, tokens, then, opened)?;
     let other = word(tokens, chosen, ELSE)?;
     let (no, next) = inner(alloc, tokens, other, opened)?;
-    Ok((choice(alloc, cond, yes, no)?, next))
+    let branches = branches(alloc, yes, no)?;
+    Ok((choice(alloc, cond, branches)?, next))
 }
 
 /// Reads operands of a level, joined by its operators.

@@ -3,9 +3,9 @@ ghost use Rattle.std.specs.Prelude.{◌≡◌, IfOk};
 ghost use Rattle.re_terms.specs.Trees.{raw_depth};
 ghost use Rattle.re_terms.specs.declared.raw_expr.RawExpr.{RawExpr};
 ghost use Rattle.re_terms.specs.declared.raw_expr.RawExpr.TheVariants as expr;
-ghost use Rattle.re_syntax.specs.Steps.{Stands};
+ghost use Rattle.re_syntax.specs.Steps.{Stands, AreBranches};
 
-use crate::kept::Kept;
+use crate::kept::{Branches, Kept};
 use re_terms::{Op, RawExpr, Text};
 use sqlite_items::Boxed;
 use std::alloc::{AllocError, Global};
@@ -88,25 +88,35 @@ pub fn recovery(alloc: Global, tried: Kept, other: Kept) -> Result<Kept, AllocEr
     Ok(Kept::Whole(RawExpr::Recover { tried, other }, depth + 1))
 }
 
-/// A choice of two expressions.
-pub fn choice(alloc: Global, cond: Kept, yes: Kept, no: Kept) -> Result<Kept, AllocError>
-    ensures { IfOk result (λ k. (c a b : RawExpr) → Stands cond c → Stands yes a → Stands no b → Stands k (expr.If c a b)) }
+/// The two branches of a choice.
+pub fn branches(alloc: Global, yes: Kept, no: Kept) -> Result<Branches, AllocError>
+    ensures { IfOk result (λ w. (a b : RawExpr) → Stands yes a → Stands no b → AreBranches w a b) }
 {
-    let Kept::Whole(c, l) = cond else {
-        return Ok(Kept::TooDeep);
-    };
     let Kept::Whole(a, m) = yes else {
-        return Ok(Kept::TooDeep);
+        return Ok(Branches::TooDeep);
     };
     let Kept::Whole(b, n) = no else {
+        return Ok(Branches::TooDeep);
+    };
+    let yes = Boxed::new(alloc, a)?;
+    let no = Boxed::new(alloc, b)?;
+    Ok(Branches::Whole(yes, no, m.max(n)))
+}
+
+/// A choice of two expressions.
+pub fn choice(alloc: Global, cond: Kept, branches: Branches) -> Result<Kept, AllocError>
+    ensures { IfOk result (λ k. (c a b : RawExpr) → Stands cond c → AreBranches branches a b → Stands k (expr.If c a b)) }
+{
+    let Kept::Whole(c, m) = cond else {
         return Ok(Kept::TooDeep);
     };
-    let depth = l.max(m.max(n));
+    let Branches::Whole(yes, no, n) = branches else {
+        return Ok(Kept::TooDeep);
+    };
+    let depth = m.max(n);
     if depth >= DEEPEST {
         return Ok(Kept::TooDeep);
     }
     let cond = Boxed::new(alloc, c)?;
-    let yes = Boxed::new(alloc, a)?;
-    let no = Boxed::new(alloc, b)?;
     Ok(Kept::Whole(RawExpr::If { cond, yes, no }, depth + 1))
 }

@@ -19,8 +19,8 @@ pub returns-clause-ok : goal.returns-clause-ok
 returns-clause-ok c = λ opened. record { expression = _; stands = c.leaf-2.ensures; accepts = farther (finish (next_one_literal (leaf_stage opened c.args.tokens.now c.args.i c.requires.bracket c.requires.negation c.requires.recovery c.requires.membership (c.is_word.ensures.other c.if-is_word.false) (c.is_word-2.ensures.other c.if-is_word-2.false) (c.is_word-3.ensures.other c.if-is_word-3.false) (c.is_word-4.ensures.other c.if-is_word-4.false)) c.in_ok-value.ensures.ok) c.in_ok-value.ensures.ok.inside) (lit≤ tt) never_more }
 
 pub returns-then-is_word-3-clause-ok : goal.returns-then-is_word-3-clause-ok
-returns-then-is_word-3-clause-ok c = λ opened. record { expression = _; stands = c.leaf.ensures; accepts = farther (finish (arg_stage opened c.args.tokens.now c.args.i (c.is_word-3.ensures.yes c.if-is_word-3.true)) (c.requires.ends c.args.i c.requires.inside (λ e. no_end_word (sym (c.is_word-3.ensures.yes c.if-is_word-3.true) ∙ e)))) (lit≤ tt) never_more }
+returns-then-is_word-3-clause-ok c = λ opened. record { expression = _; stands = c.leaf.ensures; accepts = farther (finish (arg_stage opened c.args.tokens.now c.args.i (c.is_word-3.ensures.yes c.if-is_word-3.true)) (c.requires.ends c.args.i c.requires.inside (no_end_word (c.is_word-3.ensures.yes c.if-is_word-3.true)))) (lit≤ tt) never_more }
 
 pub returns-then-is_word-4-clause-ok : goal.returns-then-is_word-4-clause-ok
-returns-then-is_word-4-clause-ok c = λ opened. record { expression = _; stands = c.leaf-then-is_word.ensures; accepts = farther (finish (own_stage opened c.args.tokens.now c.args.i (c.is_word-4.ensures.yes c.if-is_word-4.true)) (c.requires.ends c.args.i c.requires.inside (λ e. no_end_word (sym (c.is_word-4.ensures.yes c.if-is_word-4.true) ∙ e)))) (lit≤ tt) never_more }
+returns-then-is_word-4-clause-ok c = λ opened. record { expression = _; stands = c.leaf-then-is_word-4.ensures; accepts = farther (finish (own_stage opened c.args.tokens.now c.args.i (c.is_word-4.ensures.yes c.if-is_word-4.true)) (c.requires.ends c.args.i c.requires.inside (no_end_word (c.is_word-4.ensures.yes c.if-is_word-4.true)))) (lit≤ tt) never_more }
 

@@ -10,7 +10,7 @@ use Rattle.re_syntax.proofs.Levels.{expression_completes, further_completes, con
 use Rattle.re_syntax.proofs.Levels.{after_done, too_many}
 use Rattle.re_syntax.proofs.Tokens.{none_of, stops_from, accepts_from}
 use Rattle.re_terms.specs.declared.raw_expr.RawExpr.TheVariants as expr
-use Rattle.re_syntax.proofs.+expressions.Goals as goal
+use Rattle.re_syntax.proofs.expression.+expressions.Goals as goal
 
 pub brackets-returns-in_err-operand-clause-stop : goal.brackets-returns-in_err-operand-clause-stop
 brackets-returns-in_err-operand-clause-stop t c =
@@ -129,13 +129,18 @@ condition-returns-in_err-no-clause-stop t c =
     let p = err_from_is_err_and c.from_residual-in_err-no.result c.from_residual-in_err-no.ensures.1 in
     rw (p.1, p.2) (stops_behind _ (next_one (next (next_one (next (condition_stage c.args.opened c.args.tokens.now c.args.i c.requires.opened c.requires.word) c.in_ok-cond.ensures.ok.accepts (lit≤ tt) (after_mark _ no_then)) c.in_ok-then.ensures.ok (lit≤ tt) after_nothing) c.in_ok-yes.ensures.ok.accepts (lit≤ tt) (after_mark _ no_else)) c.in_ok-other.ensures.ok (lit≤ tt) after_nothing) c.in_err-no.ensures.stop (omega (arith, c.in_ok-cond.ensures.ok.accepts.exact.forward, c.in_ok-then.ensures.ok.exact.forward, c.in_ok-yes.ensures.ok.accepts.exact.forward, c.in_ok-other.ensures.ok.exact.forward)) (after_done _) (λ _. done_completes _) (λ j d. d) (λ j d. d))
 
+pub condition-returns-in_err-branches-clause-stop : goal.condition-returns-in_err-branches-clause-stop
+condition-returns-in_err-branches-clause-stop t c =
+    let p = err_from_is_err_and c.from_residual-in_err-branches.result c.from_residual-in_err-branches.ensures.1 in
+    rw (p.1, p.2) (record { told = tt })
+
 pub condition-returns-in_err-choice-clause-stop : goal.condition-returns-in_err-choice-clause-stop
 condition-returns-in_err-choice-clause-stop t c =
     let p = err_from_is_err_and c.from_residual-in_err-choice.result c.from_residual-in_err-choice.ensures.1 in
     rw (p.1, p.2) (record { told = tt })
 
 pub condition-returns-clause-ok : goal.condition-returns-clause-ok
-condition-returns-clause-ok t c = record { expression = _; stands = c.in_ok-choice.ensures _ _ _ c.in_ok-cond.ensures.ok.stands c.in_ok-yes.ensures.ok.stands c.in_ok-no.ensures.ok.stands; accepts = finish (next (next_one (next (next_one (next (condition_stage c.args.opened c.args.tokens.now c.args.i c.requires.opened c.requires.word) c.in_ok-cond.ensures.ok.accepts (lit≤ tt) (after_mark _ no_then)) c.in_ok-then.ensures.ok (lit≤ tt) after_nothing) c.in_ok-yes.ensures.ok.accepts (lit≤ tt) (after_mark _ no_else)) c.in_ok-other.ensures.ok (lit≤ tt) after_nothing) c.in_ok-no.ensures.ok.accepts (lit≤ tt) (after_done _)) c.in_ok-no.ensures.ok.accepts.inside }
+condition-returns-clause-ok t c = record { expression = _; stands = c.in_ok-choice.ensures _ _ _ c.in_ok-cond.ensures.ok.stands (c.in_ok-branches.ensures _ _ c.in_ok-yes.ensures.ok.stands c.in_ok-no.ensures.ok.stands); accepts = finish (next (next_one (next (next_one (next (condition_stage c.args.opened c.args.tokens.now c.args.i c.requires.opened c.requires.word) c.in_ok-cond.ensures.ok.accepts (lit≤ tt) (after_mark _ no_then)) c.in_ok-then.ensures.ok (lit≤ tt) after_nothing) c.in_ok-yes.ensures.ok.accepts (lit≤ tt) (after_mark _ no_else)) c.in_ok-other.ensures.ok (lit≤ tt) after_nothing) c.in_ok-no.ensures.ok.accepts (lit≤ tt) (after_done _)) c.in_ok-no.ensures.ok.accepts.inside }
 
 pub expression-returns-clause-ok : goal.expression-returns-clause-ok
 expression-returns-clause-ok t c = ok_map c.operands.result c.operands.ensures.ok (λ r f. record { expression = f.expression; stands = f.stands; accepts = accepts_from (plain_stage c.args.opened c.args.tokens.now c.args.i c.requires.opened (c.is_word.ensures.other c.if-is_word.false)) f.accepts })
@@ -183,7 +188,7 @@ pub comparison-returns-clause-ok : goal.comparison-returns-clause-ok
 comparison-returns-clause-ok t c = record { expression = _; stands = c.in_ok-binary.ensures _ _ c.in_ok-left.ensures.ok.stands c.in_ok-right.ensures.ok.stands; accepts = finish (next (once_stage c.args.opened c.args.tokens.now c.args.i _ _ _ c.in-Some.ensures.0 c.in-Some.ensures.1 (next (operands_stage c.args.opened 2 c.args.tokens.now c.args.i (lit< tt)) c.in_ok-left.ensures.ok.accepts (lit≤ tt) (after_operand c.args.opened 2 (λ a. a)))) c.in_ok-right.ensures.ok.accepts (lit≤ tt) (after_second _ _)) c.in_ok-right.ensures.ok.accepts.inside }
 
 pub comparison-returns-in_default-clause-ok : goal.comparison-returns-in_default-clause-ok
-comparison-returns-in_default-clause-ok t c = record { expression = _; stands = c.in_ok-left.ensures.ok.stands; accepts = ended_accepts c.args.opened 2 c.args.tokens.now c.args.i _ _ (none_of c.operator.result c.operator.ensures c.in_default.not-Some) c.in_ok-left.ensures.ok.accepts.inside (next (operands_stage c.args.opened 2 c.args.tokens.now c.args.i (lit< tt)) c.in_ok-left.ensures.ok.accepts (lit≤ tt) (after_operand c.args.opened 2 (λ a. a))) }
+comparison-returns-in_default-clause-ok t c = record { expression = _; stands = c.in_ok-left.ensures.ok.stands; accepts = ended_accepts c.args.opened 2 c.args.tokens.now c.args.i _ _ (none_of _ _ c.operator.result c.operator.ensures c.in_default.not-Some) c.in_ok-left.ensures.ok.accepts.inside (next (operands_stage c.args.opened 2 c.args.tokens.now c.args.i (lit< tt)) c.in_ok-left.ensures.ok.accepts (lit≤ tt) (after_operand c.args.opened 2 (λ a. a))) }
 
 pub chain-returns-in_err-first-clause-stop : goal.chain-returns-in_err-first-clause-stop
 chain-returns-in_err-first-clause-stop t c =
@@ -211,5 +216,5 @@ pub chain-operators-smaller : goal.chain-operators-smaller
 chain-operators-smaller t c = (let a = c.in_ok-right.ensures.ok.accepts.exact.forward in let b = c.in_ok-right.ensures.ok.accepts.inside in omega (arith, a, b))
 
 pub chain-returns-clause-ok : goal.chain-returns-clause-ok
-chain-returns-clause-ok t c = record { expression = _; stands = c.operators.invariant.read.1.0; accepts = ended_accepts c.args.opened c.args.level c.args.tokens.now c.args.i _ _ (none_of c.operator.result c.operator.ensures c.in_default.not-Some) c.operators.invariant.inside c.operators.invariant.read.1.1 }
+chain-returns-clause-ok t c = record { expression = _; stands = c.operators.invariant.read.1.0; accepts = ended_accepts c.args.opened c.args.level c.args.tokens.now c.args.i _ _ (none_of _ _ c.operator.result c.operator.ensures c.in_default.not-Some) c.operators.invariant.inside c.operators.invariant.read.1.1 }
 

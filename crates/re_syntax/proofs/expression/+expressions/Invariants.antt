@@ -3,7 +3,7 @@ use Rattle.re_terms.specs.declared.raw_expr.RawExpr.{RawExpr}
 use Rattle.re_syntax.specs.Grammar.{Level, Further}
 use Rattle.re_syntax.specs.Steps.{Stands, APhrase, joins}
 use Rattle.re_syntax.proofs.Tokens.{Stage}
-use Rattle.re_syntax.proofs.+expressions.Given as goal
+use Rattle.re_syntax.proofs.expression.+expressions.Given as goal
 
 abbrev pub decreases-inner : goal.decreases-inner
 decreases-inner l = (129 - l.opened) * 16
