@@ -1,4 +1,4 @@
-use Rattle.std.proofs.Common.{ℕ, suc, ◌+◌, ◌-◌, ◌<◌, ◌≤◌, ◌≡◌, ◌⊎◌, inl, inr, Bool, true, false, ◌||◌, List, [], ◌∷◌, length, Option, Some, None, refl, sym, subst, ◌∙◌, ap, arith, lit≤, lit<}
+use Rattle.std.proofs.Common.{ℕ, zero, suc, ◌+◌, ◌-◌, ◌<◌, ◌≤◌, ◌≡◌, ◌⊎◌, inl, inr, Bool, true, false, ◌||◌, List, [], ◌∷◌, length, Option, Some, None, refl, sym, subst, ◌∙◌, ap, arith, lit≤, lit<}
 use Rattle.re_terms.specs.Listed.{Listed, plain}
 use Rattle.re_terms.specs.declared.reserved.TheConstants.{DEVICE, SYMBOL, VAR, EVENT, SIGNAL, FOLD, COUNTER, SET, REGISTER, CHANGED, MAP, FILTER, EITHER, ON, DO, IN}
 use Rattle.re_terms.specs.declared.signs.TheConstants.{SEMICOLON, COLON, EQUALS, COMMA, OPEN, CLOSE}
@@ -20,8 +20,9 @@ use Rattle.re_syntax.specs.Places.{SourceHead, ContentHead, Head, IsDeep, open_l
 use Rattle.re_syntax.specs.Steps.{Language, text, Holds, IsEnough, nothing, joins, extends, is_region_word, Unfit, Refusal, Accepts, Stops, Misses, Then, One, Done, Single, Named, AKind, ALiteral, ARegion, ASource, AContent, ADeclaration, FirstName, OnlyName, KindPart, StartPart, DeepAt, DeepSource, DeepContent, DeepDeclaration}
 use Rattle.re_syntax.proofs.Steps.{SoFar, Completes, Follows, Includes, no_true, so_next, one_completes, done_completes, then_completes, after_one}
 use Rattle.re_syntax.proofs.Tokens.{Stage, one_longer, not_joined}
-use Rattle.re_syntax.proofs.Rules.{clash, form, same_name}
-use Rattle.re_syntax.proofs.Levels.{no_in, no_semicolon}
+use Rattle.re_syntax.proofs.Rules.{clash, var_rest, var_builds, event_rest, event_builds, signal_rest, signal_builds, fold_rest, fold_builds, set_rest, set_builds, register_rest, register_builds}
+use Rattle.re_syntax.proofs.Leaves.{mark_completes, name_completes, kind_completes, literal_completes, region_completes}
+use Rattle.re_syntax.proofs.Levels.{no_in, no_semicolon, expression_completes}
 
 -- what an accepted step stands for in its own text
 pub reading : {V : Type 0} {X : Language V} {goes_on : Mark → Bool} {ahead : ℕ} {tokens : List Token} {v : V} {i n : ℕ} → Accepts X goes_on ahead tokens v i n → X (text tokens) open_limit v i n
@@ -198,7 +199,7 @@ fold_made {at} {i} {behind} v t r o n d =
     let e2 : r.middle ≡ i + 2 = omega (arith, e1, p.second.next) in
     let e3 : q.middle ≡ i + 3 = omega (arith, e2, q.first.next) in
     let e4 : l.middle ≡ behind = sym l.second.stays in
-    places.fold refl p.first.fits (moved_kind at p.middle (i + 1) p.value p.second.fits e1) (moved_mark at r.middle (i + 2) (mark.Sign EQUALS) q.first.fits e2)
+    places.fold refl p.first.fits (moved_kind at p.middle (i + 1) r.value p.second.fits e1) (moved_mark at r.middle (i + 2) (mark.Sign EQUALS) q.first.fits e2)
     (subst (λ (a : ℕ). Literal at l.value a behind) e3 (subst (λ (a : ℕ). Literal at l.value q.middle a) e4 l.first)) o n d
 
 -- the head of a fold begins with the start part that was read
@@ -271,3 +272,102 @@ after_fold f = record { at_once = λ limit other a v k n j x. region_once (f a) 
 
 pub after_region : {V : Type 0} (f : ℕ → V) → Follows is_region_word (λ r. Done (f r)) extends
 after_region f = record { at_once = λ limit other a v k n j x. (region_wide.each (other n) (ap is_region_word (ap other x.stays) ∙ j), x.stays) }
+
+-- declarations
+
+pub after_content : {V : Type 0} (Z : RawBody → Unit {0} → Language V) → Follows extends (λ b. Then (Single (mark.Sign SEMICOLON)) (Z b)) nothing
+after_content Z = after_one {first = extends} (λ m b h is. no_true (sym no_semicolon ∙ ap extends (sym is) ∙ h))
+
+declared_word : {at : ℕ → Mark} {limit : ℕ → ℕ} {w : ℕ} {b : RawBody} {i n : ℕ} → Content at limit w b i n → w < 9
+declared_word (device g) = omega (arith, g)
+declared_word (symbol g) = omega (arith, g)
+declared_word (var g _ _ _ _ _) = omega (arith, g)
+declared_word (event g _ _) = omega (arith, g)
+declared_word (derived g _ _) = omega (arith, g)
+declared_word (signal g _ _) = omega (arith, g)
+declared_word (fold g _ _ _ _ _ _ _ _ _) = omega (arith, g)
+declared_word (counter g) = omega (arith, g)
+declared_word (set g _ _) = omega (arith, g)
+declared_word (register g _ _ _ _) = omega (arith, g)
+
+head_word : {at : ℕ → Mark} {w i s : ℕ} → ContentHead at w i s → w < 9
+head_word (places.derived g _ _) = omega (arith, g)
+head_word (places.signal g _) = omega (arith, g)
+head_word (places.fold g _ _ _ _ _ _ _) = omega (arith, g)
+
+-- `device a;`
+device_marks : List Mark
+device_marks = mark.Reserved DEVICE ∷ mark.Name (plain []) ∷ mark.Sign SEMICOLON ∷ []
+
+device_holds : (other : ℕ → Mark) (limit : ℕ → ℕ) (i n : ℕ) → Holds other i device_marks n → Declaration other limit (record { name = plain []; body = body.Device }) i n
+unfolding device_marks
+device_holds other limit i n h = record { word = DEVICE; last = i + 2; begins = h.0; named = h.1.0; content = device refl;
+  ends = moved_mark other (i + 1 + 1) (i + 2) (mark.Sign SEMICOLON) h.1.1.0 (omega arith); next = omega (arith, h.1.1.1) }
+
+pub declaration_refused : (tokens : List Token) (i : ℕ) → i < length tokens → ((w : ℕ) → text tokens i ≡ mark.Reserved w → w < 9 → ⊥) → Stops ADeclaration nothing (DeepDeclaration tokens i) tokens i (stop.Unexpected i)
+unfolding device_marks
+declaration_refused tokens i inside none = record { told = (record {
+    reached = omega arith;
+    value = record { name = plain []; body = body.Device };
+    ahead = device_marks;
+    some = lit< tt;
+    begun = λ limit roomy other n agrees holds. device_holds other limit i n holds;
+    ended = λ limit under other w n agrees x. absurd (none x.word (sym (agrees i (omega arith)) ∙ x.begins) (declared_word x.content));
+  }, inside, λ s d. none d.0.word d.0.begins (head_word d.0.content)); within = tt }
+
+pub declaration_reads : (tokens : List Token) (i n : ℕ) → DeepDeclaration tokens i n → (t : Listed ℕ) × (m : ℕ) × Named (text tokens) open_limit t (i + 1) m
+declaration_reads tokens i n d = (d.0.name, i + 1 + 1, record { fits = d.0.named; next = refl })
+
+same_words : {m : Mark} {a b : ℕ} → m ≡ mark.Reserved a → m ≡ mark.Reserved b → a ≡ b
+same_words e f = cc
+
+pub declaration_up : (tokens : List Token) (word : ℕ) (t : Listed ℕ) (i n : ℕ) → text tokens i ≡ mark.Reserved word → Accepts Named nothing 0 tokens t (i + 1) n → (j : ℕ) → DeepContent tokens word n j → DeepDeclaration tokens i j
+declaration_up tokens word t i n h a j d =
+    let r = reading a in
+    let e : n ≡ i + 2 = omega (arith, r.next) in
+    (record { word = word; name = t; begins = h; named = r.fits; content = subst (λ (q : ℕ). ContentHead (text tokens) word q j) e d.0 }, d.1)
+
+pub declaration_down : (tokens : List Token) (word : ℕ) (t : Listed ℕ) (i n : ℕ) → text tokens i ≡ mark.Reserved word → Accepts Named nothing 0 tokens t (i + 1) n → (j : ℕ) → DeepDeclaration tokens i j → DeepContent tokens word n j
+declaration_down tokens word t i n h a j d =
+    let r = reading a in
+    let e : i + 2 ≡ n = omega (arith, r.next) in
+    let w : d.0.word ≡ word = same_words d.0.begins h in
+    (subst (λ (q : ℕ). ContentHead (text tokens) word q j) e (subst (λ (q : ℕ). ContentHead (text tokens) q (i + 2) j) w d.0.content), d.1)
+
+nothing_content : (word : ℕ) (b : RawBody) → ((limit : ℕ → ℕ) (other : ℕ → Mark) (k : ℕ) → Content other limit word b k k) → Completes (AContent word)
+nothing_content word b build = record { value = b; ahead = []; whole = λ limit other k n room h. subst (λ (q : ℕ). Content other limit word b k q) (sym h) (build limit other k) }
+
+-- a rule is completed as what its marks are read as
+built_completes : (word : ℕ) (R : Language RawBody) → Completes R → ((limit : ℕ → ℕ) (other : ℕ → Mark) (v : RawBody) (i n : ℕ) → R other limit v i n → Content other limit word v i n) → Completes (AContent word)
+built_completes word R c build = record { value = c.value; ahead = c.ahead; whole = λ limit other k n room h. build limit other c.value k n (c.whole limit other k n room h) }
+
+var_completes : Completes (AContent VAR)
+var_completes = built_completes VAR var_rest (then_completes (mark_completes _) (λ _. then_completes kind_completes (λ _. then_completes (mark_completes _) (λ _. then_completes literal_completes (λ _. then_completes region_completes (λ _. done_completes _)))))) var_builds
+
+event_completes : Completes (AContent EVENT)
+event_completes = built_completes EVENT event_rest (then_completes (mark_completes _) (λ _. then_completes kind_completes (λ _. done_completes _))) event_builds
+
+signal_completes : Completes (AContent SIGNAL)
+signal_completes = built_completes SIGNAL signal_rest (then_completes (mark_completes _) (λ _. then_completes (expression_completes 1 (lit≤ tt)) (λ _. done_completes _))) signal_builds
+
+fold_completes : Completes (AContent FOLD)
+fold_completes = built_completes FOLD fold_rest (then_completes (mark_completes _) (λ _. then_completes kind_completes (λ _. then_completes (mark_completes _) (λ _. then_completes literal_completes (λ _. then_completes (mark_completes _) (λ _.
+    then_completes name_completes (λ _. then_completes (mark_completes _) (λ _. then_completes (expression_completes 1 (lit≤ tt)) (λ _. then_completes region_completes (λ _. done_completes _)))))))))) fold_builds
+
+set_completes : Completes (AContent SET)
+set_completes = built_completes SET set_rest (then_completes (mark_completes _) (λ _. then_completes kind_completes (λ _. done_completes _))) set_builds
+
+register_completes : Completes (AContent REGISTER)
+register_completes = built_completes REGISTER register_rest (then_completes (mark_completes _) (λ _. then_completes kind_completes (λ _. then_completes (mark_completes _) (λ _. then_completes literal_completes (λ _. done_completes _))))) register_builds
+
+pub content_completes : (word : ℕ) → word < 9 → Completes (AContent word)
+content_completes zero h = nothing_content 0 body.Device (λ limit other k. device refl)
+content_completes (suc zero) h = nothing_content 1 body.Symbol (λ limit other k. symbol refl)
+content_completes (suc (suc zero)) h = var_completes
+content_completes (suc (suc (suc zero))) h = event_completes
+content_completes (suc (suc (suc (suc zero)))) h = signal_completes
+content_completes (suc (suc (suc (suc (suc zero))))) h = fold_completes
+content_completes (suc (suc (suc (suc (suc (suc zero)))))) h = nothing_content 6 body.Counter (λ limit other k. counter refl)
+content_completes (suc (suc (suc (suc (suc (suc (suc zero))))))) h = set_completes
+content_completes (suc (suc (suc (suc (suc (suc (suc (suc zero)))))))) h = register_completes
+content_completes (suc (suc (suc (suc (suc (suc (suc (suc (suc w))))))))) h = absurd (omega arith)

@@ -362,7 +362,7 @@ either_stage tokens i h = stage_from ASource (either_rest) tokens i (mark.Reserv
 abbrev pub device_rest : Language RawBody
 device_rest = Done (body.Device)
 
-device_builds : (limit : ℕ → ℕ) (other : ℕ → Mark) (v : RawBody) (i n : ℕ) → device_rest other limit v i n → Content other limit DEVICE v i n
+pub device_builds : (limit : ℕ → ℕ) (other : ℕ → Mark) (v : RawBody) (i n : ℕ) → device_rest other limit v i n → Content other limit DEVICE v i n
 device_builds limit other v i n r =
     moved (λ a q. Content other limit DEVICE a i q) (device refl) r.is (omega (arith, r.stays))
 
@@ -384,7 +384,7 @@ device_stage tokens i = stage_at (AContent DEVICE) device_rest tokens i (λ limi
 abbrev pub symbol_rest : Language RawBody
 symbol_rest = Done (body.Symbol)
 
-symbol_builds : (limit : ℕ → ℕ) (other : ℕ → Mark) (v : RawBody) (i n : ℕ) → symbol_rest other limit v i n → Content other limit SYMBOL v i n
+pub symbol_builds : (limit : ℕ → ℕ) (other : ℕ → Mark) (v : RawBody) (i n : ℕ) → symbol_rest other limit v i n → Content other limit SYMBOL v i n
 symbol_builds limit other v i n r =
     moved (λ a q. Content other limit SYMBOL a i q) (symbol refl) r.is (omega (arith, r.stays))
 
@@ -406,7 +406,7 @@ symbol_stage tokens i = stage_at (AContent SYMBOL) symbol_rest tokens i (λ limi
 abbrev pub counter_rest : Language RawBody
 counter_rest = Done (body.Counter)
 
-counter_builds : (limit : ℕ → ℕ) (other : ℕ → Mark) (v : RawBody) (i n : ℕ) → counter_rest other limit v i n → Content other limit COUNTER v i n
+pub counter_builds : (limit : ℕ → ℕ) (other : ℕ → Mark) (v : RawBody) (i n : ℕ) → counter_rest other limit v i n → Content other limit COUNTER v i n
 counter_builds limit other v i n r =
     moved (λ a q. Content other limit COUNTER a i q) (counter refl) r.is (omega (arith, r.stays))
 
@@ -428,7 +428,7 @@ counter_stage tokens i = stage_at (AContent COUNTER) counter_rest tokens i (λ l
 abbrev pub var_rest : Language RawBody
 var_rest = Then (Single (mark.Sign COLON)) (λ _. Then AKind (λ k. Then (Single (mark.Sign EQUALS)) (λ _. Then ALiteral (λ v. Then ARegion (λ r. Done (body.Var k v r))))))
 
-var_builds : (limit : ℕ → ℕ) (other : ℕ → Mark) (v : RawBody) (i n : ℕ) → var_rest other limit v i n → Content other limit VAR v i n
+pub var_builds : (limit : ℕ → ℕ) (other : ℕ → Mark) (v : RawBody) (i n : ℕ) → var_rest other limit v i n → Content other limit VAR v i n
 var_builds limit other v i n r =
     let e1 : r.middle ≡ i + 1 = omega (arith, r.first.next) in
     let e2 : r.second.middle ≡ i + 2 = omega (arith, r.second.first.next, e1) in
@@ -453,7 +453,7 @@ var_stage tokens i = stage_at (AContent VAR) var_rest tokens i (λ limit other v
 abbrev pub event_rest : Language RawBody
 event_rest = Then (Single (mark.Sign COLON)) (λ _. Then AKind (λ k. Done (body.Event k)))
 
-event_builds : (limit : ℕ → ℕ) (other : ℕ → Mark) (v : RawBody) (i n : ℕ) → event_rest other limit v i n → Content other limit EVENT v i n
+pub event_builds : (limit : ℕ → ℕ) (other : ℕ → Mark) (v : RawBody) (i n : ℕ) → event_rest other limit v i n → Content other limit EVENT v i n
 event_builds limit other v i n r =
     let e1 : r.middle ≡ i + 1 = omega (arith, r.first.next) in
     let e2 : r.second.middle ≡ i + 2 = omega (arith, r.second.first.next, e1) in
@@ -474,7 +474,7 @@ event_inverts limit other _ _ _ h (register g _ _ _ _) = absurd (omega (arith, g
 abbrev pub signal_rest : Language RawBody
 signal_rest = Then (Single (mark.Sign EQUALS)) (λ _. Then (AnExpression 1) (λ e. Done (body.Signal e)))
 
-signal_builds : (limit : ℕ → ℕ) (other : ℕ → Mark) (v : RawBody) (i n : ℕ) → signal_rest other limit v i n → Content other limit SIGNAL v i n
+pub signal_builds : (limit : ℕ → ℕ) (other : ℕ → Mark) (v : RawBody) (i n : ℕ) → signal_rest other limit v i n → Content other limit SIGNAL v i n
 signal_builds limit other v i n r =
     let e1 : r.middle ≡ i + 1 = omega (arith, r.first.next) in
     moved (λ a q. Content other limit SIGNAL a i q) (signal refl r.first.fits (subst (λ (q : ℕ). Reads other limit Expression (1) r.second.value q r.second.middle) e1 r.second.first)) r.second.second.is (omega (arith, r.second.second.stays))
@@ -497,7 +497,7 @@ signal_stage tokens i = stage_at (AContent SIGNAL) signal_rest tokens i (λ limi
 abbrev pub fold_rest : Language RawBody
 fold_rest = Then (Single (mark.Sign COLON)) (λ _. Then AKind (λ k. Then (Single (mark.Sign EQUALS)) (λ _. Then ALiteral (λ v. Then (Single (mark.Reserved ON)) (λ _. Then Named (λ t. Then (Single (mark.Reserved DO)) (λ _. Then (AnExpression 1) (λ e. Then ARegion (λ r. Done (body.Fold k v t e r))))))))))
 
-fold_builds : (limit : ℕ → ℕ) (other : ℕ → Mark) (v : RawBody) (i n : ℕ) → fold_rest other limit v i n → Content other limit FOLD v i n
+pub fold_builds : (limit : ℕ → ℕ) (other : ℕ → Mark) (v : RawBody) (i n : ℕ) → fold_rest other limit v i n → Content other limit FOLD v i n
 fold_builds limit other v i n r =
     let e1 : r.middle ≡ i + 1 = omega (arith, r.first.next) in
     let e2 : r.second.middle ≡ i + 2 = omega (arith, r.second.first.next, e1) in
@@ -525,7 +525,7 @@ fold_stage tokens i = stage_at (AContent FOLD) fold_rest tokens i (λ limit othe
 abbrev pub set_rest : Language RawBody
 set_rest = Then (Single (mark.Sign COLON)) (λ _. Then AKind (λ k. Done (body.Set k)))
 
-set_builds : (limit : ℕ → ℕ) (other : ℕ → Mark) (v : RawBody) (i n : ℕ) → set_rest other limit v i n → Content other limit SET v i n
+pub set_builds : (limit : ℕ → ℕ) (other : ℕ → Mark) (v : RawBody) (i n : ℕ) → set_rest other limit v i n → Content other limit SET v i n
 set_builds limit other v i n r =
     let e1 : r.middle ≡ i + 1 = omega (arith, r.first.next) in
     let e2 : r.second.middle ≡ i + 2 = omega (arith, r.second.first.next, e1) in
@@ -549,7 +549,7 @@ set_stage tokens i = stage_at (AContent SET) set_rest tokens i (λ limit other v
 abbrev pub register_rest : Language RawBody
 register_rest = Then (Single (mark.Sign COLON)) (λ _. Then AKind (λ k. Then (Single (mark.Sign EQUALS)) (λ _. Then ALiteral (λ v. Done (body.Register k v)))))
 
-register_builds : (limit : ℕ → ℕ) (other : ℕ → Mark) (v : RawBody) (i n : ℕ) → register_rest other limit v i n → Content other limit REGISTER v i n
+pub register_builds : (limit : ℕ → ℕ) (other : ℕ → Mark) (v : RawBody) (i n : ℕ) → register_rest other limit v i n → Content other limit REGISTER v i n
 register_builds limit other v i n r =
     let e1 : r.middle ≡ i + 1 = omega (arith, r.first.next) in
     let e2 : r.second.middle ≡ i + 2 = omega (arith, r.second.first.next, e1) in

@@ -150,7 +150,7 @@ Stands kept.TooDeep e = 64 < raw_depth e
 
 -- the branches of a choice that a reader keeps or has given up
 abbrev pub AreBranches : Branches → RawExpr → RawExpr → Type 0
-AreBranches (branches.Whole yes no depth) a b = (yes ≡ a) × (no ≡ b) × (max (raw_depth a) (raw_depth b) ≡ depth) × (depth ≤ 64)
+AreBranches (branches.Whole first second depth) a b = (first ≡ a) × (second ≡ b) × (max (raw_depth a) (raw_depth b) ≡ depth) × (depth ≤ 64)
 AreBranches branches.TooDeep a b = 64 < max (raw_depth a) (raw_depth b)
 
 -- some expression was read, as far as it is kept

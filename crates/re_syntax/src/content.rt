@@ -138,15 +138,29 @@ pub fn content(
     ensures shallow { IfOk result (λ _. (s : ℕ) → DeepContent tokens.now word i s → ⊥) }
     ensures stop { IfErr result (λ s. Stops (AContent word) extends (DeepContent tokens.now word i) tokens.now i s) }
 {
-    match word {
-        DEVICE => Ok((RawBody::Device, i)),
-        SYMBOL => Ok((RawBody::Symbol, i)),
-        VAR => var(alloc, tokens, i),
-        EVENT => event(alloc, tokens, i),
-        SIGNAL => signal(alloc, tokens, i),
-        FOLD => fold(alloc, tokens, i),
-        COUNTER => Ok((RawBody::Counter, i)),
-        SET => set(tokens, i),
-        _ => register(alloc, tokens, i),
+    if word == DEVICE {
+        return Ok((RawBody::Device, i));
     }
+    if word == SYMBOL {
+        return Ok((RawBody::Symbol, i));
+    }
+    if word == VAR {
+        return var(alloc, tokens, i);
+    }
+    if word == EVENT {
+        return event(alloc, tokens, i);
+    }
+    if word == SIGNAL {
+        return signal(alloc, tokens, i);
+    }
+    if word == FOLD {
+        return fold(alloc, tokens, i);
+    }
+    if word == COUNTER {
+        return Ok((RawBody::Counter, i));
+    }
+    if word == SET {
+        return set(tokens, i);
+    }
+    register(alloc, tokens, i)
 }

@@ -1,7 +1,7 @@
 //! Declarations.
-ghost use Rattle.std.specs.Prelude.{◌≡◌, ◌<◌, true, length, IfOk, IfErr};
-ghost use Rattle.re_terms.specs.Trees.{is_declaration};
-ghost use Rattle.re_syntax.specs.Steps.{EndsLast, Accepts, Stops, nothing, ADeclaration, DeepDeclaration};
+ghost use Rattle.std.specs.Prelude.{◌≡◌, ◌<◌, ℕ, length, IfOk, IfErr, MatchOption};
+ghost use Rattle.re_terms.specs.declared.token.Mark.TheVariants as mark;
+ghost use Rattle.re_syntax.specs.Steps.{text, EndsLast, Accepts, Stops, nothing, ADeclaration, DeepDeclaration};
 
 use crate::content::content;
 use crate::marks::{mark, name, sign};
@@ -14,9 +14,18 @@ use std::alloc::Global;
 /// The word that a declaration begins with, if the token is one.
 fn declaring_word(tokens: &[Token], i: usize) -> Option<u8>
     requires { i < length tokens.now }
+    ensures { MatchOption result
+        ((w : ℕ) → text tokens.now i ≡ mark.Reserved w → w < 9 → ⊥)
+        (λ w. (text tokens.now i ≡ mark.Reserved w) × (w < 9)) }
 {
     match mark(tokens, i) {
-        Mark::Reserved(word) if *word <= REGISTER => Some(*word),
+        Mark::Reserved(word) => {
+            if *word <= REGISTER {
+                Some(*word)
+            } else {
+                None
+            }
+        }
         _ => None,
     }
 }

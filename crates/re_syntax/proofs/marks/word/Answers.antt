@@ -5,6 +5,8 @@ use Rattle.re_syntax.proofs.Tokens.{one_accepts, one_misses}
 use Rattle.re_syntax.proofs.Leaves.{name_completes}
 use Rattle.re_syntax.proofs.Levels.{no_in}
 use Rattle.re_syntax.proofs.Rules.{clash}
+use Rattle.re_syntax.proofs.Heads.{reading}
+use Rattle.re_syntax.proofs.Depths.{misses_deep}
 use Rattle.re_syntax.proofs.marks.word.Goals as goal
 
 no_word : (word : ℕ) → mark.End ≡ mark.Reserved word → ⊥
