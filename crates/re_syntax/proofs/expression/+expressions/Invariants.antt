@@ -38,12 +38,12 @@ decreases-read_recovery l = (129 - l.opened) * 16 + 1
 abbrev pub decreases-read_membership : goal.decreases-read_membership
 decreases-read_membership l = (129 - l.opened) * 16 + 1
 
-abbrev pub chain-invariant-operators : goal.chain-invariant-operators
-chain-invariant-operators l = record {
+abbrev pub invariant-chain-operators : goal.invariant-chain-operators
+invariant-chain-operators l = record {
   inside : l.at < length l.tokens;
   before : l.i ≤ l.at;
   read : (e : RawExpr) × (Stands l.left e × Stage (APhrase (Level l.level) l.opened) (joins l.level) l.tokens 1 l.i l.at (APhrase (Further l.level e) l.opened));
 }
 
-abbrev pub chain-decreases-operators : goal.chain-decreases-operators
-chain-decreases-operators l = length l.tokens - l.at
+abbrev pub decreases-chain-operators : goal.decreases-chain-operators
+decreases-chain-operators l = length l.tokens - l.at
