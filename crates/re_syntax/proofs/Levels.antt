@@ -11,7 +11,7 @@ use Rattle.re_terms.specs.declared.raw_expr.RawExpr.TheVariants as expr
 use Rattle.re_syntax.specs.declared.stop.Stop.TheVariants as stop
 use Rattle.re_syntax.specs.Grammar.{operator_of, level_of, Literal, number, negative, truth, falsity, name, Phrase, Expression, Level, Further, Primary, Reads, condition, plain, operands, primary, last, again, once, literal_, arg, own, brackets, negation, recovery, fault, size, membership, Region, unwritten, written}
 use Rattle.re_syntax.specs.Places.{Agrees}
-use Rattle.re_syntax.specs.Steps.{Language, text, IsEnough, nothing, joins, binds_from, extends, is_region_word, Exactly, Accepts, Stops, StopsBehind, Never, Then, One, Done, Single, ARegion, APhrase, AnExpression}
+use Rattle.re_syntax.specs.Steps.{Language, text, IsEnough, nothing, joins, binds_from, extends, is_region_word, EndsLast, Exactly, Accepts, Stops, StopsBehind, Never, Then, One, Done, Single, ARegion, APhrase, AnExpression}
 use Rattle.re_syntax.proofs.Steps.{SoFar, Completes, Follows, Includes, no_true, so_ends}
 use Rattle.re_syntax.proofs.Tokens.{Stage}
 use Rattle.re_syntax.proofs.Rules.{clash, moved}
@@ -258,3 +258,10 @@ too_many opened tokens i behind inside full = let here : i - 1 + 1 ≡ i = omega
       subst (λ (q : ℕ). Reads other limit Expression (opened + 1) (expr.Lit (literal.Int (pos 0))) i q) far (plain (omega arith) (zero_level (opened + 1) limit other i h));
     ended = λ limit under other w m agrees x. absurd (let few : opened + 1 ≤ limit i = expression_within x in let most : limit i ≤ 128 = under i (omega arith) in omega arith);
   }, omega arith, λ s d. d) }
+
+no_end_operator : (o : Op) → operator_of mark.End ≡ Some o → ⊥
+unfolding operator_of
+no_end_operator o e = cc
+
+pub operator_inside : (tokens : List Token) (i : ℕ) (o : Op) → EndsLast tokens → i < length tokens → operator_of (text tokens i) ≡ Some o → i + 1 < length tokens
+operator_inside tokens i o ends inside h = ends i inside (λ e. no_end_operator o (sym (ap operator_of e) ∙ h))

@@ -1,6 +1,7 @@
 //! What stands between a declaration's name and its `;`.
 ghost use Rattle.std.specs.Prelude.{◌≡◌, ◌<◌, length, IfOk, IfErr};
 ghost use Rattle.re_terms.specs.declared.reserved.TheConstants.{VAR, EVENT, SIGNAL, FOLD, REGISTER};
+ghost use Rattle.re_syntax.specs.Programs.{IsShallow};
 ghost use Rattle.re_syntax.specs.Steps.{EndsLast, Accepts, Stops, Misses, nothing, extends, AContent, StartPart, DeepContent};
 
 use crate::expression::whole;
@@ -31,6 +32,7 @@ fn var(alloc: Global, tokens: &[Token], i: usize) -> Result<(RawBody, usize), St
     requires inside { i < length tokens.now }
     requires ends { EndsLast tokens.now }
     ensures ok { IfOk result (λ r. Accepts (AContent VAR) extends 1 tokens.now r.0 i r.1) }
+    ensures depth { IfOk result (λ r. IsShallow r.0) }
     ensures shallow { IfOk result (λ _. (s : ℕ) → DeepContent tokens.now VAR i s → ⊥) }
     ensures stop { IfErr result (λ s. Stops (AContent VAR) extends (DeepContent tokens.now VAR i) tokens.now i s) }
 {
@@ -51,6 +53,7 @@ fn event(alloc: Global, tokens: &[Token], i: usize) -> Result<(RawBody, usize), 
     requires inside { i < length tokens.now }
     requires ends { EndsLast tokens.now }
     ensures ok { IfOk result (λ r. Accepts (AContent EVENT) extends 1 tokens.now r.0 i r.1) }
+    ensures depth { IfOk result (λ r. IsShallow r.0) }
     ensures shallow { IfOk result (λ _. (s : ℕ) → DeepContent tokens.now EVENT i s → ⊥) }
     ensures stop { IfErr result (λ s. Stops (AContent EVENT) extends (DeepContent tokens.now EVENT i) tokens.now i s) }
 {
@@ -66,6 +69,7 @@ fn signal(alloc: Global, tokens: &[Token], i: usize) -> Result<(RawBody, usize),
     requires inside { i < length tokens.now }
     requires ends { EndsLast tokens.now }
     ensures ok { IfOk result (λ r. Accepts (AContent SIGNAL) extends 1 tokens.now r.0 i r.1) }
+    ensures depth { IfOk result (λ r. IsShallow r.0) }
     ensures shallow { IfOk result (λ _. (s : ℕ) → DeepContent tokens.now SIGNAL i s → ⊥) }
     ensures stop { IfErr result (λ s. Stops (AContent SIGNAL) extends (DeepContent tokens.now SIGNAL i) tokens.now i s) }
 {
@@ -79,6 +83,7 @@ fn fold(alloc: Global, tokens: &[Token], i: usize) -> Result<(RawBody, usize), S
     requires inside { i < length tokens.now }
     requires ends { EndsLast tokens.now }
     ensures ok { IfOk result (λ r. Accepts (AContent FOLD) extends 1 tokens.now r.0 i r.1) }
+    ensures depth { IfOk result (λ r. IsShallow r.0) }
     ensures shallow { IfOk result (λ _. (s : ℕ) → DeepContent tokens.now FOLD i s → ⊥) }
     ensures stop { IfErr result (λ s. Stops (AContent FOLD) extends (DeepContent tokens.now FOLD i) tokens.now i s) }
 {
@@ -105,6 +110,7 @@ fn set(tokens: &[Token], i: usize) -> Result<(RawBody, usize), Stop>
     requires inside { i < length tokens.now }
     requires ends { EndsLast tokens.now }
     ensures ok { IfOk result (λ r. Accepts (AContent SET) extends 1 tokens.now r.0 i r.1) }
+    ensures depth { IfOk result (λ r. IsShallow r.0) }
     ensures shallow { IfOk result (λ _. (s : ℕ) → DeepContent tokens.now SET i s → ⊥) }
     ensures stop { IfErr result (λ s. Stops (AContent SET) extends (DeepContent tokens.now SET i) tokens.now i s) }
 {
@@ -117,6 +123,7 @@ fn register(alloc: Global, tokens: &[Token], i: usize) -> Result<(RawBody, usize
     requires inside { i < length tokens.now }
     requires ends { EndsLast tokens.now }
     ensures ok { IfOk result (λ r. Accepts (AContent REGISTER) extends 1 tokens.now r.0 i r.1) }
+    ensures depth { IfOk result (λ r. IsShallow r.0) }
     ensures shallow { IfOk result (λ _. (s : ℕ) → DeepContent tokens.now REGISTER i s → ⊥) }
     ensures stop { IfErr result (λ s. Stops (AContent REGISTER) extends (DeepContent tokens.now REGISTER i) tokens.now i s) }
 {
@@ -135,6 +142,7 @@ pub fn content(
     requires ends { EndsLast tokens.now }
     requires declares { word < 9 }
     ensures ok { IfOk result (λ r. Accepts (AContent word) extends 1 tokens.now r.0 i r.1) }
+    ensures depth { IfOk result (λ r. IsShallow r.0) }
     ensures shallow { IfOk result (λ _. (s : ℕ) → DeepContent tokens.now word i s → ⊥) }
     ensures stop { IfErr result (λ s. Stops (AContent word) extends (DeepContent tokens.now word i) tokens.now i s) }
 {

@@ -1,6 +1,7 @@
 //! Declarations.
 ghost use Rattle.std.specs.Prelude.{◌≡◌, ◌<◌, ℕ, length, IfOk, IfErr, MatchOption};
 ghost use Rattle.re_terms.specs.declared.token.Mark.TheVariants as mark;
+ghost use Rattle.re_syntax.specs.Programs.{IsShallow};
 ghost use Rattle.re_syntax.specs.Steps.{text, EndsLast, Accepts, Stops, nothing, ADeclaration, DeepDeclaration};
 
 use crate::content::content;
@@ -36,6 +37,7 @@ pub fn declaration(alloc: Global, tokens: &[Token], i: usize) -> Result<(RawDecl
     requires ends { EndsLast tokens.now }
     ensures ok { IfOk result (λ r. Accepts ADeclaration nothing 0 tokens.now r.0 i r.1) }
     ensures behind { IfOk result (λ r. i < r.1) }
+    ensures depth { IfOk result (λ r. IsShallow r.0.body) }
     ensures shallow { IfOk result (λ _. (s : ℕ) → DeepDeclaration tokens.now i s → ⊥) }
     ensures stop { IfErr result (λ s. Stops ADeclaration nothing (DeepDeclaration tokens.now i) tokens.now i s) }
 {

@@ -1,10 +1,13 @@
 //! Programs.
-ghost use Rattle.std.specs.Prelude.{◌≡◌, ℕ, List, IfOk, Err};
+ghost use Rattle.std.specs.Prelude.{◌≡◌, ◌<◌, ℕ, List, true, false, length, IfOk, IfErr, Err};
 ghost use Rattle.re_terms.specs.Tokens.{IsTokenList};
 ghost use Rattle.re_terms.specs.Trees.{IsTree};
 ghost use Rattle.re_terms.specs.declared.raw.RawDecl.{RawDecl};
+ghost use Rattle.re_terms.specs.declared.token.Mark.TheVariants as mark;
 ghost use Rattle.re_syntax.specs.Grammar.{marks_of, Derives};
-ghost use Rattle.re_syntax.specs.Places.{open_limit, IsUnexpected, IsTooDeep};
+ghost use Rattle.re_syntax.specs.Places.{open_limit, IsUnexpected, IsTooDeep, EndsTooDeep};
+ghost use Rattle.re_syntax.specs.Steps.{text};
+ghost use Rattle.re_syntax.specs.Programs.{IsProgram, StopsProgram};
 
 use crate::declaration::declaration;
 use crate::fault::SyntaxFault;
@@ -15,6 +18,9 @@ use std::alloc::Global;
 
 /// Whether a token is the end of the text.
 fn is_end(tokens: &[Token], i: usize) -> bool
+    requires { i < length tokens.now }
+    ensures yes { result ≡ true → text tokens.now i ≡ mark.End }
+    ensures other { result ≡ false → text tokens.now i ≡ mark.End → ⊥ }
 {
     match mark(tokens, i) {
         Mark::End => true,
@@ -22,27 +28,22 @@ fn is_end(tokens: &[Token], i: usize) -> bool
     }
 }
 
-/// The fault that a stop makes, with the place of its token.
-fn fault_of(tokens: &[Token], stop: Stop) -> SyntaxFault
-{
-    match stop {
-        Stop::Memory => SyntaxFault::Memory,
-        Stop::Unexpected(i) => SyntaxFault::At(tokens[i].at),
-        Stop::TooMany(i) | Stop::TooDeep(i) => SyntaxFault::Deep(tokens[i].at),
-    }
-}
-
 /// Reads declarations up to the end of the text.
 fn declarations(alloc: Global, tokens: &[Token]) -> Result<Seq<RawDecl>, Stop>
+    requires { IsTokenList tokens.now }
+    ensures ok { IfOk result (λ decls. IsProgram tokens.now decls) }
+    ensures stop { IfErr result (λ s. StopsProgram tokens.now s) }
 {
     let mut decls = Seq::new(alloc);
     let mut at = 0;
-    'declarations: while !is_end(tokens, at) {
+    'declarations: loop {
+        if is_end(tokens, at) {
+            return Ok(decls);
+        }
         let (decl, next) = declaration(alloc, tokens, at)?;
         decls.push(decl)?;
         at = next;
     }
-    Ok(decls)
 }
 
 /// Reads the tokens of a text as a program.
@@ -54,12 +55,16 @@ pub fn parse(alloc: Global, tokens: &Seq<Token>) -> Result<Tree, SyntaxFault>
     ensures tree { IfOk result (λ tree. Derives open_limit (marks_of tokens.now.items) tree.decls.items) }
     ensures limits { IfOk result IsTree }
     ensures only { IfOk result (λ tree. (limit : ℕ → ℕ) (other : List RawDecl) → Derives limit (marks_of tokens.now.items) other → other ≡ tree.decls.items) }
+    ensures shallow { IfOk result (λ tree. (byte : ℕ) → EndsTooDeep tokens.now.items byte → ⊥) }
     ensures at { (byte : ℕ) → result ≡ Err (SyntaxFault.At byte) → IsUnexpected tokens.now.items byte }
     ensures deep { (byte : ℕ) → result ≡ Err (SyntaxFault.Deep byte) → IsTooDeep tokens.now.items byte }
 {
     let tokens = tokens.as_slice();
     match declarations(alloc, tokens) {
         Ok(decls) => Ok(Tree { decls }),
-        Err(stop) => Err(fault_of(tokens, stop)),
+        Err(Stop::Memory) => Err(SyntaxFault::Memory),
+        Err(Stop::Unexpected(i)) => Err(SyntaxFault::At(tokens[i].at)),
+        Err(Stop::TooMany(i)) => Err(SyntaxFault::Deep(tokens[i].at)),
+        Err(Stop::TooDeep(i)) => Err(SyntaxFault::Deep(tokens[i].at)),
     }
 }

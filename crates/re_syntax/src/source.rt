@@ -1,6 +1,7 @@
 //! The sources of derived events.
 ghost use Rattle.std.specs.Prelude.{◌≡◌, ◌<◌, length, IfOk, IfErr};
 ghost use Rattle.re_terms.specs.declared.token.Mark.TheVariants as mark;
+ghost use Rattle.re_syntax.specs.Programs.{IsShallow};
 ghost use Rattle.re_syntax.specs.Steps.{text, EndsLast, Accepts, Stops, nothing, ASource, DeepSource};
 
 use crate::expression::whole;
@@ -17,6 +18,7 @@ fn changed(alloc: Global, tokens: &[Token], i: usize) -> Result<(RawBody, usize)
     requires ends { EndsLast tokens.now }
     requires word { text tokens.now i ≡ mark.Reserved CHANGED }
     ensures ok { IfOk result (λ r. Accepts ASource nothing 0 tokens.now r.0 i r.1) }
+    ensures depth { IfOk result (λ r. IsShallow r.0) }
     ensures shallow { IfOk result (λ _. (s : ℕ) → DeepSource tokens.now i s → ⊥) }
     ensures stop { IfErr result (λ s. Stops ASource nothing (DeepSource tokens.now i) tokens.now i s) }
 {
@@ -30,6 +32,7 @@ fn mapped(alloc: Global, tokens: &[Token], i: usize) -> Result<(RawBody, usize),
     requires ends { EndsLast tokens.now }
     requires word { text tokens.now i ≡ mark.Reserved MAP }
     ensures ok { IfOk result (λ r. Accepts ASource nothing 0 tokens.now r.0 i r.1) }
+    ensures depth { IfOk result (λ r. IsShallow r.0) }
     ensures shallow { IfOk result (λ _. (s : ℕ) → DeepSource tokens.now i s → ⊥) }
     ensures stop { IfErr result (λ s. Stops ASource nothing (DeepSource tokens.now i) tokens.now i s) }
 {
@@ -45,6 +48,7 @@ fn filtered(alloc: Global, tokens: &[Token], i: usize) -> Result<(RawBody, usize
     requires ends { EndsLast tokens.now }
     requires word { text tokens.now i ≡ mark.Reserved FILTER }
     ensures ok { IfOk result (λ r. Accepts ASource nothing 0 tokens.now r.0 i r.1) }
+    ensures depth { IfOk result (λ r. IsShallow r.0) }
     ensures shallow { IfOk result (λ _. (s : ℕ) → DeepSource tokens.now i s → ⊥) }
     ensures stop { IfErr result (λ s. Stops ASource nothing (DeepSource tokens.now i) tokens.now i s) }
 {
@@ -60,6 +64,7 @@ fn either(alloc: Global, tokens: &[Token], i: usize) -> Result<(RawBody, usize),
     requires ends { EndsLast tokens.now }
     requires word { text tokens.now i ≡ mark.Reserved EITHER }
     ensures ok { IfOk result (λ r. Accepts ASource nothing 0 tokens.now r.0 i r.1) }
+    ensures depth { IfOk result (λ r. IsShallow r.0) }
     ensures shallow { IfOk result (λ _. (s : ℕ) → DeepSource tokens.now i s → ⊥) }
     ensures stop { IfErr result (λ s. Stops ASource nothing (DeepSource tokens.now i) tokens.now i s) }
 {
@@ -74,6 +79,7 @@ pub fn source(alloc: Global, tokens: &[Token], i: usize) -> Result<(RawBody, usi
     requires inside { i < length tokens.now }
     requires ends { EndsLast tokens.now }
     ensures ok { IfOk result (λ r. Accepts ASource nothing 0 tokens.now r.0 i r.1) }
+    ensures depth { IfOk result (λ r. IsShallow r.0) }
     ensures shallow { IfOk result (λ _. (s : ℕ) → DeepSource tokens.now i s → ⊥) }
     ensures stop { IfErr result (λ s. Stops ASource nothing (DeepSource tokens.now i) tokens.now i s) }
 {

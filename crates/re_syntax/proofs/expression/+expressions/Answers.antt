@@ -7,7 +7,8 @@ use Rattle.re_syntax.proofs.Tokens.{begin, next, next_one, finish, last_of, fart
 use Rattle.re_syntax.proofs.Leaves.{mark_completes, name_completes, kind_completes, code_completes, literal_completes, region_completes, first_name_together, only_name_together, kind_together, start_together, leaf_stage, unwritten_accepts, written_accepts, region_misses, number_accepts, truth_accepts, falsity_accepts, name_accepts, negative_accepts, negative_misses, literal_misses}
 use Rattle.re_syntax.proofs.Rules.{arg_stage, own_stage, brackets_stage, negation_stage, recovery_stage, fault_stage, size_stage, membership_stage, changed_stage, mapped_stage, filtered_stage, either_stage, device_stage, symbol_stage, counter_stage, var_stage, event_stage, signal_stage, fold_stage, set_stage, register_stage, derived_stage, declaration_stage}
 use Rattle.re_syntax.proofs.Levels.{expression_completes, further_completes, condition_stage, plain_stage, tightest_stage, operands_stage, after_operand, joins_less, again_stage, ended_accepts, once_stage, after_second, no_close, no_comma, no_then, no_else, no_in, no_semicolon}
-use Rattle.re_syntax.proofs.Levels.{after_done, too_many}
+use Rattle.re_syntax.proofs.Levels.{after_done, too_many, operator_inside}
+use Rattle.std.proofs.Common.{rules}
 use Rattle.re_syntax.proofs.Tokens.{none_of, stops_from, accepts_from}
 use Rattle.re_terms.specs.declared.raw_expr.RawExpr.TheVariants as expr
 use Rattle.re_syntax.proofs.expression.+expressions.Goals as goal
@@ -43,7 +44,7 @@ read_negation-returns-in_err-next-clause-stop t c =
 pub read_negation-returns-in_err-negation-clause-stop : goal.read_negation-returns-in_err-negation-clause-stop
 read_negation-returns-in_err-negation-clause-stop t c =
     let p = err_from_is_err_and c.from_residual-in_err-negation.result c.from_residual-in_err-negation.ensures.1 in
-    rw (p.1, p.2) (record { told = tt })
+    rw (p.1, p.2) (record { told = tt; within = tt })
 
 pub read_negation-returns-clause-ok : goal.read_negation-returns-clause-ok
 read_negation-returns-clause-ok t c = record { expression = _; stands = c.in_ok-negation.ensures _ c.in_ok-operand.ensures.ok.stands; accepts = farther (finish (next_one (next (next (negation_stage c.args.opened c.args.tokens.now c.args.i c.requires.word) c.in_ok-start.ensures.ok (lit≤ tt) after_nothing) c.in_ok-operand.ensures.ok.accepts (lit≤ tt) (after_mark _ no_close)) c.in_ok-next.ensures.ok (lit≤ tt) after_nothing) c.in_ok-next.ensures.ok.inside) (lit≤ tt) never_more }
@@ -76,7 +77,7 @@ read_recovery-returns-in_err-next-clause-stop t c =
 pub read_recovery-returns-in_err-recovery-clause-stop : goal.read_recovery-returns-in_err-recovery-clause-stop
 read_recovery-returns-in_err-recovery-clause-stop t c =
     let p = err_from_is_err_and c.from_residual-in_err-recovery.result c.from_residual-in_err-recovery.ensures.1 in
-    rw (p.1, p.2) (record { told = tt })
+    rw (p.1, p.2) (record { told = tt; within = tt })
 
 pub read_recovery-returns-clause-ok : goal.read_recovery-returns-clause-ok
 read_recovery-returns-clause-ok t c = record { expression = _; stands = c.in_ok-recovery.ensures _ _ c.in_ok-tried.ensures.ok.stands c.in_ok-other.ensures.ok.stands; accepts = farther (finish (next_one (next (next_one (next (next (recovery_stage c.args.opened c.args.tokens.now c.args.i c.requires.word) c.in_ok-start.ensures.ok (lit≤ tt) after_nothing) c.in_ok-tried.ensures.ok.accepts (lit≤ tt) (after_mark _ no_comma)) c.in_ok-second.ensures.ok (lit≤ tt) after_nothing) c.in_ok-other.ensures.ok.accepts (lit≤ tt) (after_mark _ no_close)) c.in_ok-next.ensures.ok (lit≤ tt) after_nothing) c.in_ok-next.ensures.ok.inside) (lit≤ tt) never_more }
@@ -99,7 +100,7 @@ read_membership-returns-in_err-next-clause-stop t c =
 pub read_membership-returns-in_err-membership-clause-stop : goal.read_membership-returns-in_err-membership-clause-stop
 read_membership-returns-in_err-membership-clause-stop t c =
     let p = err_from_is_err_and c.from_residual-in_err-membership.result c.from_residual-in_err-membership.ensures.1 in
-    rw (p.1, p.2) (record { told = tt })
+    rw (p.1, p.2) (record { told = tt; within = tt })
 
 pub read_membership-returns-clause-ok : goal.read_membership-returns-clause-ok
 read_membership-returns-clause-ok t c = record { expression = _; stands = c.in_ok-membership.ensures _ c.in_ok-element.ensures.ok.stands; accepts = farther (finish (next_one (next (next (first_name_together _ _ _ _ _ _ _ (membership_stage c.args.opened c.args.tokens.now c.args.i c.requires.word)) c.in_ok-set.ensures.ok (lit≤ tt) after_nothing) c.in_ok-element.ensures.ok.accepts (lit≤ tt) (after_mark _ no_close)) c.in_ok-next.ensures.ok (lit≤ tt) after_nothing) c.in_ok-next.ensures.ok.inside) (lit≤ tt) never_more }
@@ -132,12 +133,12 @@ condition-returns-in_err-no-clause-stop t c =
 pub condition-returns-in_err-branches-clause-stop : goal.condition-returns-in_err-branches-clause-stop
 condition-returns-in_err-branches-clause-stop t c =
     let p = err_from_is_err_and c.from_residual-in_err-branches.result c.from_residual-in_err-branches.ensures.1 in
-    rw (p.1, p.2) (record { told = tt })
+    rw (p.1, p.2) (record { told = tt; within = tt })
 
 pub condition-returns-in_err-choice-clause-stop : goal.condition-returns-in_err-choice-clause-stop
 condition-returns-in_err-choice-clause-stop t c =
     let p = err_from_is_err_and c.from_residual-in_err-choice.result c.from_residual-in_err-choice.ensures.1 in
-    rw (p.1, p.2) (record { told = tt })
+    rw (p.1, p.2) (record { told = tt; within = tt })
 
 pub condition-returns-clause-ok : goal.condition-returns-clause-ok
 condition-returns-clause-ok t c = record { expression = _; stands = c.in_ok-choice.ensures _ _ _ c.in_ok-cond.ensures.ok.stands (c.in_ok-branches.ensures _ _ c.in_ok-yes.ensures.ok.stands c.in_ok-no.ensures.ok.stands); accepts = finish (next (next_one (next (next_one (next (condition_stage c.args.opened c.args.tokens.now c.args.i c.requires.opened c.requires.word) c.in_ok-cond.ensures.ok.accepts (lit≤ tt) (after_mark _ no_then)) c.in_ok-then.ensures.ok (lit≤ tt) after_nothing) c.in_ok-yes.ensures.ok.accepts (lit≤ tt) (after_mark _ no_else)) c.in_ok-other.ensures.ok (lit≤ tt) after_nothing) c.in_ok-no.ensures.ok.accepts (lit≤ tt) (after_done _)) c.in_ok-no.ensures.ok.accepts.inside }
@@ -182,13 +183,19 @@ comparison-returns-in_err-right-clause-stop t c =
 pub comparison-returns-in_err-binary-clause-stop : goal.comparison-returns-in_err-binary-clause-stop
 comparison-returns-in_err-binary-clause-stop t c =
     let p = err_from_is_err_and c.from_residual-in_err-binary.result c.from_residual-in_err-binary.ensures.1 in
-    rw (p.1, p.2) (record { told = tt })
+    rw (p.1, p.2) (record { told = tt; within = tt })
 
 pub comparison-returns-clause-ok : goal.comparison-returns-clause-ok
 comparison-returns-clause-ok t c = record { expression = _; stands = c.in_ok-binary.ensures _ _ c.in_ok-left.ensures.ok.stands c.in_ok-right.ensures.ok.stands; accepts = finish (next (once_stage c.args.opened c.args.tokens.now c.args.i _ _ _ c.in-Some.ensures.0 c.in-Some.ensures.1 (next (operands_stage c.args.opened 2 c.args.tokens.now c.args.i (lit< tt)) c.in_ok-left.ensures.ok.accepts (lit≤ tt) (after_operand c.args.opened 2 (λ a. a)))) c.in_ok-right.ensures.ok.accepts (lit≤ tt) (after_second _ _)) c.in_ok-right.ensures.ok.accepts.inside }
 
 pub comparison-returns-in_default-clause-ok : goal.comparison-returns-in_default-clause-ok
 comparison-returns-in_default-clause-ok t c = record { expression = _; stands = c.in_ok-left.ensures.ok.stands; accepts = ended_accepts c.args.opened 2 c.args.tokens.now c.args.i _ _ (none_of _ _ c.operator.result c.operator.ensures c.in_default.not-Some) c.in_ok-left.ensures.ok.accepts.inside (next (operands_stage c.args.opened 2 c.args.tokens.now c.args.i (lit< tt)) c.in_ok-left.ensures.ok.accepts (lit≤ tt) (after_operand c.args.opened 2 (λ a. a))) }
+
+pub chain-operands-requires-in-Some : goal.chain-operands-requires-in-Some
+chain-operands-requires-in-Some t c = let e : c.operators.at + 1 < length c.args.tokens.now = operator_inside c.args.tokens.now _ _ c.requires.ends c.operators.invariant.inside c.in-Some.ensures.0 in search rules
+
+pub comparison-operands-requires-2 : goal.comparison-operands-requires-2
+comparison-operands-requires-2 t c = let e : c.in_ok-left.at + 1 < length c.args.tokens.now = operator_inside c.args.tokens.now _ _ c.requires.ends c.in_ok-left.ensures.ok.accepts.inside c.in-Some.ensures.0 in search rules
 
 pub chain-returns-in_err-first-clause-stop : goal.chain-returns-in_err-first-clause-stop
 chain-returns-in_err-first-clause-stop t c =
@@ -206,7 +213,7 @@ chain-returns-in_err-right-clause-stop t c =
 pub chain-returns-in_err-left-clause-stop : goal.chain-returns-in_err-left-clause-stop
 chain-returns-in_err-left-clause-stop t c =
     let p = err_from_is_err_and c.from_residual-in_err-left.result c.from_residual-in_err-left.ensures.1 in
-    rw (p.1, p.2) (record { told = tt })
+    rw (p.1, p.2) (record { told = tt; within = tt })
 
 pub chain-operators-preserved : goal.chain-operators-preserved
 chain-operators-preserved t c = record { inside = c.in_ok-right.ensures.ok.accepts.inside; before = (let a = c.in_ok-right.ensures.ok.accepts.exact.forward in let b = c.operators.invariant.before in omega (arith, a, b));

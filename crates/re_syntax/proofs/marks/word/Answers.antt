@@ -7,6 +7,7 @@ use Rattle.re_syntax.proofs.Levels.{no_in}
 use Rattle.re_syntax.proofs.Rules.{clash}
 use Rattle.re_syntax.proofs.Heads.{reading}
 use Rattle.re_syntax.proofs.Depths.{misses_deep}
+use Rattle.re_syntax.proofs.Programs.{progress_start}
 use Rattle.re_syntax.proofs.marks.word.Goals as goal
 
 no_word : (word : ℕ) → mark.End ≡ mark.Reserved word → ⊥
