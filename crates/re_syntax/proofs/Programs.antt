@@ -191,8 +191,8 @@ declarations_forward none = omega arith
 declarations_forward (more x y) = omega (arith, declaration_forward x, declarations_forward y)
 
 deep_rest : (at : ℕ → Mark) (rest : List RawDecl) (here start next : ℕ) → (start ≡ here → ⊥) → ((e : RawDecl) (k : ℕ) → Declaration at open_limit e here k → k ≡ next) → Declarations at open_limit rest here start → next ≤ start
-deep_rest at _ here _ next no only none = absurd (no refl)
-deep_rest at _ here start next no only (more {k = k} {d = e} x y) = let same : k ≡ next = only e k x in omega (arith, declarations_forward y)
+deep_rest at _ here _ next differ only none = absurd (differ refl)
+deep_rest at _ here start next differ only (more {k = k} {d = e} x y) = let same : k ≡ next = only e k x in omega (arith, declarations_forward y)
 
 pub progress_step : (tokens : List Token) (done : List RawDecl) (here next : ℕ) (d : RawDecl) → IsTokenList tokens → Progress tokens done here → Accepts ADeclaration nothing 0 tokens d here next → here < next → IsShallow d.body
   → ((s : ℕ) → DeepDeclaration tokens here s → ⊥) → Progress tokens (done ++ (d ∷ [])) next
@@ -224,11 +224,11 @@ append_none [] = refl
 append_none (d ∷ ds) = ap (λ (l : List RawDecl). d ∷ l) (append_none ds)
 
 pub progress_ends : (tokens : List Token) (done : Listed RawDecl) (here : ℕ) → IsTokenList tokens → done.spare ≡ 0 → Progress tokens done.items here → text tokens here ≡ mark.End → IsProgram tokens done
-progress_ends tokens done here list plain p e =
+progress_ends tokens done here list bare p e =
     let end : here + 1 ≡ length tokens = end_is_last tokens 0 here list p.inside e in
     let long : length (marks_of tokens) ≡ length tokens = length-map in
     record {
-      plain = plain;
+      plain = bare;
       derived = record { last = here; declarations = subst (λ (l : List RawDecl). Declarations (text tokens) open_limit l 0 here) (append_none done.items) (p.build open_limit (λ _. lit≤ tt) (text tokens) [] here (λ _ _. refl) none); end = e; all = omega arith };
       declarations = p.shallow;
       only = λ limit other x.
@@ -294,8 +294,8 @@ refused_begins tokens done here j cause p inside r =
 
 refused_rest : (tokens : List Token) (cause : Cause) (here j n : ℕ) (limit : ℕ → ℕ) (other : ℕ → Mark) (rest : List RawDecl) → Refusal ADeclaration nothing (text tokens) cause here j → IsRefusedUnder cause j limit → Agrees (j + 1) (text tokens) other
   → (n ≡ here → ⊥) → Declarations other limit rest here n → ⊥
-refused_rest tokens cause here j _ limit other _ r under agrees no none = no refl
-refused_rest tokens cause here j n limit other _ r under agrees no (more {k = k} {d = d} x y) = no_true (r.ended limit under other d k agrees x).0
+refused_rest tokens cause here j _ limit other _ r under agrees differ none = differ refl
+refused_rest tokens cause here j n limit other _ r under agrees differ (more {k = k} {d = d} x y) = no_true (r.ended limit under other d k agrees x).0
 
 refused_ends : (tokens : List Token) (done : List RawDecl) (here j : ℕ) (cause : Cause) → IsTokenList tokens → Progress tokens done here → (text tokens here ≡ mark.End → ⊥) → here ≤ j → j < length tokens
   → Refusal ADeclaration nothing (text tokens) cause here j → (limit : ℕ → ℕ) → IsRefusedUnder cause j limit → Begins limit (marks_of tokens) (j + 1) → ⊥
