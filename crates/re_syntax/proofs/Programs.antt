@@ -226,7 +226,7 @@ append_none (d ∷ ds) = ap (λ (l : List RawDecl). d ∷ l) (append_none ds)
 pub progress_ends : (tokens : List Token) (done : Listed RawDecl) (here : ℕ) → IsTokenList tokens → done.spare ≡ 0 → Progress tokens done.items here → text tokens here ≡ mark.End → IsProgram tokens done
 progress_ends tokens done here list bare p e =
     let end : here + 1 ≡ length tokens = end_is_last tokens 0 here list p.inside e in
-    let long : length (marks_of tokens) ≡ length tokens = length-map in
+    let long : length (marks_of tokens) ≡ length tokens = length-map tokens (λ t. t.mark) in
     record {
       plain = bare;
       derived = record { last = here; declarations = subst (λ (l : List RawDecl). Declarations (text tokens) open_limit l 0 here) (append_none done.items) (p.build open_limit (λ _. lit≤ tt) (text tokens) [] here (λ _ _. refl) none); end = e; all = omega arith };

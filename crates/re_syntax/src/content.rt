@@ -1,5 +1,5 @@
 //! What stands between a declaration's name and its `;`.
-ghost use Rattle.std.specs.Prelude.{◌≡◌, ◌<◌, length, IfOk, IfErr};
+ghost use Rattle.std.specs.Prelude.{◌≡◌, ℕ, ◌<◌, length, IfOk, IfErr};
 ghost use Rattle.re_terms.specs.declared.reserved.TheConstants.{VAR, EVENT, SIGNAL, FOLD, REGISTER};
 ghost use Rattle.re_syntax.specs.Programs.{IsShallow};
 ghost use Rattle.re_syntax.specs.Steps.{EndsLast, Accepts, Stops, Misses, nothing, extends, AContent, StartPart, DeepContent};

@@ -10,15 +10,18 @@ use Rattle.re_syntax.proofs.Levels.{expression_completes, further_completes, con
 use Rattle.re_syntax.proofs.Depths.{misses_deep}
 use Rattle.re_syntax.proofs.Heads.{reading, next_far, kind_longer, head_of_map, head_of_filter, no_head, map_up, map_down, filter_up, filter_down, source_refused, plain_not_deep, event_not_deep, event_up, event_down, signal_reads, signal_up, signal_down, fold_up, fold_down, fold_reads_start, fold_reads_on, fold_reads_name, fold_reads_do, wide, region_wide, after_whole, after_fold, after_region}
 use Rattle.re_syntax.proofs.Rules.{clash}
+use Rattle.re_terms.specs.declared.raw.RawBody.TheVariants as body
+use Rattle.re_terms.specs.declared.reserved.TheConstants.{ON, DO}
+use Rattle.re_syntax.specs.Steps.{Then, ARegion, Single, Named, AnExpression}
 use Rattle.re_syntax.proofs.content.register.Goals as goal
 
-pub returns-in_err-start-clause-stop : goal.returns-in_err-start-clause-stop
-returns-in_err-start-clause-stop c =
+pub returns-in_err-kind-clause-stop : goal.returns-in_err-kind-clause-stop
+returns-in_err-kind-clause-stop c =
     let p = err_from_is_err_and c.from_residual.result c.from_residual.ensures.1 in
-    rw (p.1, p.2) (stops_of_misses _ (misses_in _ (start_together _ _ _ _ _ _ _ (register_stage c.args.tokens.now c.args.i)) c.in_err-start.ensures.stop (lit≤ tt) after_nothing (λ _. done_completes _)) (plain_not_deep c.args.tokens.now _ c.args.i (λ e. omega (arith, e)) (λ e. omega (arith, e)) (λ e. omega (arith, e))))
+    rw (p.1, p.2) (stops_of_misses _ (misses_in _ (start_together _ _ _ _ _ _ (λ p. Done (body.Register p.0 p.1)) (register_stage c.args.tokens.now c.args.i)) c.in_err-kind.ensures.stop (lit≤ tt) after_nothing (λ _. done_completes _)) (plain_not_deep c.args.tokens.now _ c.args.i (λ e. omega (arith, e)) (λ e. omega (arith, e)) (λ e. omega (arith, e))))
 
 pub returns-clause-ok : goal.returns-clause-ok
-returns-clause-ok c = farther (finish (next (start_together _ _ _ _ _ _ _ (register_stage c.args.tokens.now c.args.i)) c.in_ok-start.ensures.ok (lit≤ tt) after_nothing) c.in_ok-start.ensures.ok.inside) (lit≤ tt) no_more
+returns-clause-ok c = farther (finish (next (start_together _ _ _ _ _ _ (λ p. Done (body.Register p.0 p.1)) (register_stage c.args.tokens.now c.args.i)) c.in_ok-kind.ensures.ok (lit≤ tt) after_nothing) c.in_ok-kind.ensures.ok.inside) (lit≤ tt) no_more
 
 pub returns-clause-shallow : goal.returns-clause-shallow
 returns-clause-shallow c = plain_not_deep c.args.tokens.now _ c.args.i (λ e. omega (arith, e)) (λ e. omega (arith, e)) (λ e. omega (arith, e))
