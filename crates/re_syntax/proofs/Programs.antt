@@ -1,5 +1,7 @@
 use Rattle.std.proofs.Common.{ℕ, zero, suc, ◌+◌, ◌-◌, ◌<◌, ◌≤◌, ◌≡◌, ◌&&◌, ◌⊎◌, inl, inr, Bool, true, false, List, [], ◌∷◌, ◌++◌, length, length-take, length-append, append_assoc, take, map, Option, Some, None, refl, sym, subst, ◌∙◌, ap, arith, lit≤, lit<, nat_le, cond, leb}
 use Rattle.std.specs.List.{list_all}
+use Rattle.std.specs.Prelude.{slice_get}
+use Rattle.std.proofs.Common.{get_or}
 use Rattle.std.proofs.lemmas.List.{length-map}
 use Rattle.re_terms.specs.Listed.{Listed}
 use Rattle.re_terms.specs.Tokens.{IsTokenList, ends_from, ends_well, is_mark}
@@ -15,7 +17,7 @@ use Rattle.re_terms.specs.declared.raw_expr.RawLit.{RawLit}
 use Rattle.re_terms.specs.declared.raw_expr.RawExpr.{RawExpr}
 use Rattle.re_terms.specs.declared.raw.RawBody.{RawBody}
 use Rattle.re_syntax.specs.Grammar.{marks_of, mark_at, Literal, number, negative, truth, falsity, name, Region, unwritten, written, Phrase, Reads, condition, plain, operands, primary, last, again, once, literal_, arg, own, brackets, negation, recovery, fault, size, membership, Source, changed, mapped, filtered, either, Content, device, symbol, var, event, derived, signal, fold, counter, set, register, Declaration, Declarations, none, more, Derives}
-use Rattle.re_syntax.specs.Places.{Agrees, Begins, Head, IsDeep, IsKeptUpTo, IsUnexpected, OpensTooMany, EndsTooDeep, StandsAt, open_limit}
+use Rattle.re_syntax.specs.Places.{Agrees, Begins, Head, IsDeep, IsKeptUpTo, IsUnexpected, OpensTooMany, EndsTooDeep, StandsAt, IsTooDeep, open_limit}
 use Rattle.re_syntax.specs.Programs.{IsShallow, IsProgram, StopsProgram}
 use Rattle.re_syntax.specs.Steps.{text, Holds, IsEnough, IsRoomy, nothing, EndsLast, Cause, Unfit, Beyond, fitting, IsRefusedUnder, Refusal, Accepts, Stops, ADeclaration, DeepDeclaration}
 use Rattle.re_syntax.proofs.Steps.{no_true, holds_split, holds_forward}
@@ -346,3 +348,28 @@ progress_stops tokens done here (stop.TooDeep j) list p other r =
       declared = subst (λ (l : List RawDecl). Declarations (text tokens) open_limit l 0 here) (append_none done) (p.build open_limit (λ _. lit≤ tt) (text tokens) [] here (λ _ _. refl) none);
       shallow = p.shallow; head = r.told.0.0; deep = r.told.0.1;
     }) }
+
+-- places
+
+pub token_stands : (tokens : List Token) (i : ℕ) (t : Token) → i < length tokens → t ≡ get_or tokens i t → slice_get tokens i ≡ Some t
+token_stands [] i t inside e = absurd (omega arith)
+token_stands (u ∷ us) zero t inside e = ap Some (sym e)
+token_stands (u ∷ us) (suc i) t inside e = token_stands us i t (omega arith) e
+
+pub as_unexpected : (tokens : List Token) (s : Stop) (j b byte : ℕ) → StopsProgram tokens s → s ≡ stop.Unexpected j → StandsAt tokens j b → b ≡ byte → IsUnexpected tokens byte
+as_unexpected tokens s j b byte r e at h = let q = subst (λ (x : Stop). StopsProgram tokens x) e r in subst (λ (x : ℕ). IsUnexpected tokens x) h (q.told.1 b at)
+
+pub as_many : (tokens : List Token) (s : Stop) (j b byte : ℕ) → StopsProgram tokens s → s ≡ stop.TooMany j → StandsAt tokens j b → b ≡ byte → IsTooDeep tokens byte
+as_many tokens s j b byte r e at h = let q = subst (λ (x : Stop). StopsProgram tokens x) e r in inl (subst (λ (x : ℕ). OpensTooMany tokens x) h (q.told.1 b at))
+
+pub as_deep : (tokens : List Token) (s : Stop) (j b byte : ℕ) → StopsProgram tokens s → s ≡ stop.TooDeep j → StandsAt tokens j b → b ≡ byte → IsTooDeep tokens byte
+as_deep tokens s j b byte r e at h = let q = subst (λ (x : Stop). StopsProgram tokens x) e r in inr (subst (λ (x : ℕ). EndsTooDeep tokens x) h (q.told.1 b at))
+
+pub inside_unexpected : (tokens : List Token) (s : Stop) (j : ℕ) → StopsProgram tokens s → s ≡ stop.Unexpected j → j < length tokens
+inside_unexpected tokens s j r e = (subst (λ (x : Stop). StopsProgram tokens x) e r).told.0
+
+pub inside_many : (tokens : List Token) (s : Stop) (j : ℕ) → StopsProgram tokens s → s ≡ stop.TooMany j → j < length tokens
+inside_many tokens s j r e = (subst (λ (x : Stop). StopsProgram tokens x) e r).told.0
+
+pub inside_deep : (tokens : List Token) (s : Stop) (j : ℕ) → StopsProgram tokens s → s ≡ stop.TooDeep j → j < length tokens
+inside_deep tokens s j r e = (subst (λ (x : Stop). StopsProgram tokens x) e r).told.0

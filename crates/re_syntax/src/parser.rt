@@ -5,7 +5,7 @@ ghost use Rattle.re_terms.specs.Trees.{IsTree};
 ghost use Rattle.re_terms.specs.declared.raw.RawDecl.{RawDecl};
 ghost use Rattle.re_terms.specs.declared.token.Mark.TheVariants as mark;
 ghost use Rattle.re_syntax.specs.Grammar.{marks_of, Derives};
-ghost use Rattle.re_syntax.specs.Places.{open_limit, IsUnexpected, IsTooDeep, EndsTooDeep};
+ghost use Rattle.re_syntax.specs.Places.{open_limit, StandsAt, IsUnexpected, IsTooDeep, EndsTooDeep};
 ghost use Rattle.re_syntax.specs.Steps.{text};
 ghost use Rattle.re_syntax.specs.Programs.{IsProgram, StopsProgram};
 
@@ -46,6 +46,28 @@ fn declarations(alloc: Global, tokens: &[Token]) -> Result<Seq<RawDecl>, Stop>
     }
 }
 
+/// The place of a token's first byte.
+fn place(tokens: &[Token], i: usize) -> u32
+    requires { i < length tokens.now }
+    ensures { StandsAt tokens.now i result }
+{
+    tokens[i].at
+}
+
+/// The fault for a stop, with the place of its token.
+fn fault_of(tokens: &[Token], stop: Stop) -> SyntaxFault
+    requires { StopsProgram tokens.now stop }
+    ensures at { (byte : ℕ) → result ≡ SyntaxFault.At byte → IsUnexpected tokens.now byte }
+    ensures deep { (byte : ℕ) → result ≡ SyntaxFault.Deep byte → IsTooDeep tokens.now byte }
+{
+    match stop {
+        Stop::Memory => SyntaxFault::Memory,
+        Stop::Unexpected(i) => SyntaxFault::At(place(tokens, i)),
+        Stop::TooMany(i) => SyntaxFault::Deep(place(tokens, i)),
+        Stop::TooDeep(i) => SyntaxFault::Deep(place(tokens, i)),
+    }
+}
+
 /// Reads the tokens of a text as a program.
 ///
 /// `At` comes at the first token such that the tokens up to it, with it, begin no program; `Deep` at a token that
@@ -62,9 +84,6 @@ pub fn parse(alloc: Global, tokens: &Seq<Token>) -> Result<Tree, SyntaxFault>
     let tokens = tokens.as_slice();
     match declarations(alloc, tokens) {
         Ok(decls) => Ok(Tree { decls }),
-        Err(Stop::Memory) => Err(SyntaxFault::Memory),
-        Err(Stop::Unexpected(i)) => Err(SyntaxFault::At(tokens[i].at)),
-        Err(Stop::TooMany(i)) => Err(SyntaxFault::Deep(tokens[i].at)),
-        Err(Stop::TooDeep(i)) => Err(SyntaxFault::Deep(tokens[i].at)),
+        Err(stop) => Err(fault_of(tokens, stop)),
     }
 }
