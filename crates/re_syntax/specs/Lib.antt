@@ -1,0 +1,4 @@
+pub mod Grammar
+pub mod Places
+pub mod Programs
+pub mod Steps

@@ -1,0 +1,19 @@
+//! Reads lists of tokens as programs.
+#![tactic(auto)]
+
+mod content;
+mod declaration;
+mod expression;
+mod fault;
+mod keeping;
+mod kept;
+mod leaf;
+mod marks;
+mod parser;
+mod source;
+mod stop;
+#[cfg(test)]
+mod tests;
+
+pub use fault::SyntaxFault;
+pub use parser::parse;
