@@ -23,6 +23,7 @@ is_blank b = (b == 32) || (b == 9) || (b == 13) || (b == 10)
 abbrev pub is_one_line : List ℕ → Bool
 is_one_line bytes = not (list_any (λ b. b == 10) bytes)
 
+-- its byte is a blank, or its comment is of one line
 abbrev pub is_separator : Separator → Bool
 is_separator (Blank b) = is_blank b
 is_separator (Comment bytes) = is_one_line bytes

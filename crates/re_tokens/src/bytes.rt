@@ -10,12 +10,14 @@ pub fn is_blank(byte: u8) -> bool
     byte == b' ' || byte == b'\t' || byte == b'\r' || byte == b'\n'
 }
 
+/// Whether it is one of `0` to `9`.
 pub fn is_digit(byte: u8) -> bool
     ensures { result ≡ is_digit byte }
 {
     byte >= b'0' && byte <= b'9'
 }
 
+/// Whether it is one of `A` to `Z` and `a` to `z`.
 pub fn is_letter(byte: u8) -> bool
     ensures { result ≡ is_letter byte }
 {
