@@ -1,0 +1,12 @@
+pub mod ExprMeans
+pub mod ExprReads
+pub mod ExprScans
+pub mod Levels
+pub mod LineMeans
+pub mod LineReads
+pub mod LineScans
+pub mod NamePlaces
+pub mod Places
+pub mod Scans
+pub mod Sorts
+pub mod Unresolved
