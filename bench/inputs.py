@@ -44,6 +44,50 @@ def longest_sum():
     return text
 
 
+def filled(text):
+    """The text and then a comment up to the greatest length of a program part."""
+    return text + "#" * (PART - len(text))
+
+
+def comments():
+    """A device and comments of one line each."""
+    count = (PART - 9) // 64
+    return "device a;" + ("#" * 63 + "\n") * count
+
+
+def long_name(number):
+    """A name of 32 bytes."""
+    return f"n{number:031}"
+
+
+def declarations():
+    """A device, 255 vars and 256 signals, each with a name of 32 bytes."""
+    text = "device a;\n"
+    for number in range(1, 256):
+        text += f"var {long_name(number)}: int = 1;\n"
+    for number in range(256, 512):
+        text += f"signal {long_name(number)} = {long_name(255)} + 1;\n"
+    return filled(text)
+
+
+def brackets():
+    """A device and 400 signals, each of one number in 70 brackets."""
+    text = "device a;\n"
+    for number in range(1, 401):
+        text += f"signal s{number} = " + "(" * 70 + "1" + ")" * 70 + ";\n"
+    return filled(text)
+
+
+def names():
+    """Signals of 64 names each, up to the greatest length: their canonical text is too long."""
+    text = "device a;var x:int=1;"
+    number = 0
+    while len(text) + 150 < PART:
+        text += f"signal s{number}=" + "+".join("x" * 64) + ";"
+        number += 1
+    return filled(text)
+
+
 def all_inputs():
     full_gets, count = full_of("get a s\n")
     yield "first", lines(1, "get a s\n"), 0, 1, "5"
@@ -55,13 +99,17 @@ def all_inputs():
     yield "full_of_empty_lines", padded(SMALL, LIMIT), 0, 0, ""
     yield "full_and_one_more", padded(SMALL, LIMIT + 1), 10, 1, "rescala: input too long"
     yield "one_long_line", SMALL + "x" * (LIMIT - len(SMALL)), 0, 1, "no 20"
-    yield "one_long_part", "x" * LIMIT, 3, 1, "rescala: program: not built"
+    yield "one_long_part", "x" * LIMIT, 3, 1, "rescala: program: too long"
     yield "chain_of_ones", chained("{0} + 1"), 0, 10_000, "510"
     yield "chain_of_doubles", chained("{0} + {0}"), 0, 10_000, "fault 1"
     yield "longest_sum_built", (
         "device a;signal s=1" + "+1" * 63 + ";\n---\n" + "get a s\n" * 100_000
     ), 0, 100_000, "64"
-    yield "longest_sum_refused", longest_sum(), 3, 1, "rescala: program: not built"
+    yield "longest_sum_refused", longest_sum(), 3, 1, "rescala: program: too deep at 18"
+    yield "check_comments", comments(), 0, 1, "device a;"
+    yield "check_declarations", declarations(), 0, 512, f"signal {long_name(511)} = ({long_name(255)} + 1);"
+    yield "check_brackets", brackets(), 0, 401, "signal s400 = 1;"
+    yield "check_names", names(), 3, 1, "rescala: program: too long"
 
 
 def main():

@@ -13,7 +13,8 @@ use Rattle.re_terms.specs.Listed.{Listed}
 use Rattle.re_terms.specs.Signal.{body_word, cell_place}
 use Rattle.re_tool.specs.Built.{IsBuilt, is_sum_below}
 use Rattle.re_tool.specs.Names.{body_reads, is_sum_body}
-use Rattle.re_tool.specs.Device.{DeviceState, device_word, is_var, is_var_body, is_valued}
+use Rattle.re_tool.specs.Device.{DeviceState, device_word, is_var, is_valued}
+use Rattle.re_tool.specs.Patterns.{is_var_body}
 use Rattle.re_tool.proofs.SumMeanings.{occurs-below, meaning-names}
 
 sum_body : (b : Body) (n : ℕ) → ((kind : Kind) (expr : Expr) → b ≡ body.Signal kind expr → is_sum_below n expr ≡ true) → is_sum_body n b ≡ true

@@ -1,6 +1,6 @@
 -- How a session ends.
 use Rattle.std.proofs.Common.{arith, ◌≡◌, ◌≤◌, ◌<◌, ◌+◌, ◌-◌, ◌++◌, ◌∷◌, [], ℕ, List, length, take, sym, ◌∙◌, ap, subst, refl, Bool, true, false, Option, Some, None, append_assoc, length-append, ◌⊎◌, inl, inr}
-use Rattle.std.specs.Prelude.{map, option_map}
+use Rattle.std.specs.Prelude.{map}
 use Rattle.std.specs.List.{flat_map}
 use Rattle.std.proofs.lemmas.Bool.{lt-ltb, le-ltb}
 use Rattle.std.proofs.lemmas.List.{append-nil, take_at, length_push, map-append}
@@ -9,35 +9,36 @@ use Rattle.re_outside.proofs.Does.{does_behind, at_end}
 use Rattle.re_terms.specs.declared.program.Program.{Program}
 use Rattle.re_terms.specs.World.{Outcome, start_world}
 use Rattle.re_tool.specs.declared.reader.Reader.{Reader}
+use Rattle.re_tool.specs.declared.words.Job.{Job}
+use Rattle.re_tool.specs.declared.words.Job.TheVariants as job
 use Rattle.re_tool.specs.declared.status.Status.{Status}
 use Rattle.re_tool.specs.declared.status.Status.TheVariants as status
 use Rattle.re_tool.specs.Acts.{Ordered, OrderedIn}
-use Rattle.re_tool.specs.Answers.{Outcomes, Session, texts, lines_after, session_of, session_in, answers, done, close, status_line, status_in, status_with, ending, session_text, first_lines}
+use Rattle.re_tool.specs.Answers.{Outcomes, Session, texts, lines_after, session_of, session_in, answers, done, close, status_line, status_in, ending, session_text, first_lines}
 use Rattle.re_tool.specs.Clipped.{Clipped}
 use Rattle.re_tool.specs.Device.{DeviceState}
-use Rattle.re_tool.specs.Grammar.{program_of}
 use Rattle.re_tool.specs.Lines.{split, ended, without_return}
 use Rattle.re_tool.specs.Part.{Part, part_of, last_lines}
 use Rattle.re_tool.specs.Reads.{Reads, Takes, limit}
 use Rattle.re_tool.specs.Serving.{Turns, TurnBreaks}
-use Rattle.re_tool.specs.Session.{Runs, Tells, Unanswered, Finishes, ReadFar, HasSeparator, lines_of, faults_of, is_output}
+use Rattle.re_tool.specs.Session.{Runs, Tells, Unanswered, Finishes, ReadFar, HasSeparator, lines_of, part_lines, faults_of, is_output}
+use Rattle.re_tool.specs.Verdict.{Verdict, Accepted, refusal_text}
 use Rattle.re_tool.proofs.Orders.{texts_more, order_more, ordered_all, ordered_on, ordered_line, ordered_outcome}
 use Rattle.re_tool.proofs.Parts.{read_more, taken_more, does_more}
-use Rattle.re_tool.proofs.Sessions.{SoFar, Ready, Near, with_lines, says_more, session_at, session_cut, near_ordered, size_more, session_last}
+use Rattle.re_tool.proofs.Sessions.{SoFar, Ready, Near, with_lines, says_more, part_at, part_cut, judged_at, session_at, near_ordered, size_more, part_last}
 use Rattle.re_tool.proofs.Splits.{split_lines, split_last}
 
--- where there is a session, the program part doesn't end the run
-runs_on : (part : Option Part) (s : Status) (x : Session) → session_in part ≡ Some x → status_in part s ≡ s
-runs_on None s x h = absurd (cc)
-runs_on (Some part) s x h =
-    (elim (program_of part.text) as (λ o. option_map (λ p. let y : Session = record { program = p; lines = part.lines } in y) o ≡ Some x → status_with o s ≡ s) [ None ↦ λ h. absurd (cc) | Some q ↦ λ h. refl ]) h
+-- an accepted program doesn't end the run
+runs_on : (p : Program) (part : Option Part) (s : Status) → status_in job.Run (Accepted p) part s ≡ s
+runs_on p None s = refl
+runs_on p (Some part) s = refl
 
 -- what a run says of a session that it came to the end of
-pub answers_to : (read : List ℕ) (failed : Bool) (p : Program) (lines : List (List ℕ)) (os : List Outcome) (s : Status) → session_of read failed ≡ with_lines p lines → ending read failed ≡ s
-    → answers read record { commands = os; input_failed = failed; stopped = None } ≡ close s (texts p (start_world p) lines os)
+pub answers_to : (read : List ℕ) (failed : Bool) (p : Program) (lines : List (List ℕ)) (os : List Outcome) (s : Status) → session_of job.Run (Accepted p) read failed ≡ with_lines p lines → ending read failed ≡ s
+    → answers job.Run (Accepted p) read record { commands = os; input_failed = failed; stopped = None } ≡ close (Accepted p) s (texts p (start_world p) lines os)
 answers_to read failed p lines os s is e =
-    ap (λ x. close x (session_text (session_of read failed) os)) (runs_on (part_of read failed) (ending read failed) (record { program = p; lines = lines }) is ∙ e)
-    ∙ ap (λ x. close s (session_text x os)) is
+    ap (λ x. close (Accepted p) x (session_text (session_of job.Run (Accepted p) read failed) os)) (runs_on p (part_of read failed) (ending read failed) ∙ e)
+    ∙ ap (λ x. close (Accepted p) s (session_text x os)) is
 
 pub ends_input : (read : List ℕ) → length read ≤ limit → ending read true ≡ status.Input
 ends_input read h = rw (le-ltb limit (length read) h) refl
@@ -53,28 +54,31 @@ at_least xs ys = omega (arith, length-append xs ys)
 
 module _ (a b c : Seen) (p : Program) (r r' : Reader) (device : DeviceState) (line' : Clipped) (most : ℕ) (s : SoFar a b p r device) where
   -- the input failed
-  pub near_failed : Reads r r' line' most b c [] input_fault → r'.taken ≤ limit → r'.chunk ≡ [] → Near a c status.Input
+  pub near_failed : Reads r r' line' most b c [] input_fault → r'.taken ≤ limit → r'.chunk ≡ [] → Near job.Run a c status.Input
   near_failed d few empty =
       let lines = map without_return s.raws in
       let read = s.read ++ d.bytes in
       let short : length read ≤ limit = omega (arith, size_more a b c p r r' device line' most s d) in
-      let is : session_of read true ≡ with_lines p lines = session_last a b c p r r' device line' most s d few empty true ∙ ap (with_lines p) (append-nil lines) in
+      let part = part_last a b c p r r' device line' most s d few empty true in
+      let is : session_of job.Run (Accepted p) read true ≡ with_lines p lines = session_at p _ _ _ part ∙ ap (with_lines p) (append-nil lines) in
       record {
         read = read;
         few = omega arith;
         outcomes = record { commands = s.outcomes; input_failed = true; stopped = None };
+        verdict = Accepted p;
+        judged = judged_at p _ _ _ None part s.program;
         text = texts p (start_world p) lines s.outcomes;
         does = does_more a b c s.read d.bytes _ input_fault s.does d.does;
         unanswered = [];
         unsaid = refl;
         ordered = subst (λ x. OrderedIn a c x s.outcomes []) (sym is) (near_ordered a b c p r r' device line' most s d.does);
         answer = answers_to read true p lines s.outcomes status.Input is (ends_input read short);
-        complete = inl (omega arith);
+        complete = inl (omega (arith, ap (λ x. length (lines_of (session_in (Accepted p) x))) part, ap (λ x. length (part_lines x)) part));
         far = tt;
       }
 
   -- too much input came
-  pub near_too_long : Reads r r' line' most b c [] none → r'.taken ≡ limit + 1 → length r'.chunk ≡ 1 → Near a c status.TooLong
+  pub near_too_long : Reads r r' line' most b c [] none → r'.taken ≡ limit + 1 → length r'.chunk ≡ 1 → Near job.Run a c status.TooLong
   near_too_long d long one =
       let lines = map without_return s.raws in
       let read = s.read ++ d.bytes in
@@ -84,24 +88,26 @@ module _ (a b c : Seen) (p : Program) (r r' : Reader) (device : DeviceState) (li
       let size : length (F ++ d.line) ≡ limit = omega (arith, ap length whole, length-append (F ++ d.line) r'.chunk) in
       let over : limit < length read = omega arith in
       let parts : split (take limit read) ≡ (s.head ++ s.raws, d.line) = ap split (ap (take limit) whole ∙ take_at (F ++ d.line) r'.chunk limit size) ∙ split_last (s.head ++ s.raws) d.line s.plain d.plain in
-      let cut : (failed : Bool) → session_of read failed ≡ with_lines p (lines ++ []) = λ failed. session_cut read failed s.front s.head s.raws d.line p over parts s.divides s.program in
-      let is : session_of read false ≡ with_lines p lines = cut false ∙ ap (with_lines p) (append-nil lines) in
+      let cut : (failed : Bool) → part_of read failed ≡ Some (record { text = flat_map ended s.front; lines = lines ++ [] }) = λ failed. part_cut read failed s.front s.head s.raws d.line over parts s.divides in
+      let is : session_of job.Run (Accepted p) read false ≡ with_lines p lines = session_at p _ _ _ (cut false) ∙ ap (with_lines p) (append-nil lines) in
       record {
         read = read;
         few = omega arith;
         outcomes = record { commands = s.outcomes; input_failed = false; stopped = None };
+        verdict = Accepted p;
+        judged = judged_at p _ _ _ None (cut false) s.program;
         text = texts p (start_world p) lines s.outcomes;
         does = does_more a b c s.read d.bytes _ none s.does d.does;
         unanswered = [];
         unsaid = refl;
         ordered = subst (λ x. OrderedIn a c x s.outcomes []) (sym is) (near_ordered a b c p r r' device line' most s d.does);
         answer = answers_to read false p lines s.outcomes status.TooLong is (ends_long read false over);
-        complete = inl (omega (arith, ap (λ x. length (lines_of x)) (cut false ∙ sym (cut true))));
+        complete = inl (omega (arith, ap (λ x. length (lines_of (session_in (Accepted p) x))) (cut false), ap (λ x. length (part_lines x)) (cut true)));
         far = tt;
       }
 
   -- memory ran out while a line was read
-  pub near_halted : Takes r r' b c → r'.taken ≤ limit → Near a c status.Memory
+  pub near_halted : Takes r r' b c → r'.taken ≤ limit → Near job.Run a c status.Memory
   near_halted d few =
       let lines = map without_return s.raws in
       let n = length lines in
@@ -110,22 +116,24 @@ module _ (a b c : Seen) (p : Program) (r r' : Reader) (device : DeviceState) (li
       let short : length read ≤ limit = omega (arith, taken_more r.taken r'.taken s.read d.bytes s.taken d.taken) in
       let whole : read ≡ flat_map ended (s.head ++ s.raws) ++ rest = ap (λ l. l ++ d.bytes) s.whole ∙ append_assoc (flat_map ended (s.head ++ s.raws)) r.chunk d.bytes in
       let parts : split read ≡ (s.head ++ (s.raws ++ (split rest).0), (split rest).1) = ap split whole ∙ split_lines (s.head ++ s.raws) rest s.plain ∙ ap (λ l. (l, (split rest).1)) (append_assoc s.head s.raws (split rest).0) in
-      let session : (failed : Bool) → session_of read failed ≡ with_lines p (lines ++ (map without_return (split rest).0 ++ last_lines failed (split rest).1)) =
-      λ failed. session_at read failed s.front s.head (s.raws ++ (split rest).0) (split rest).1 p short parts s.divides s.program
-      ∙ ap (with_lines p) (ap (λ l. l ++ last_lines failed (split rest).1) (map-append without_return s.raws (split rest).0) ∙ append_assoc lines (map without_return (split rest).0) (last_lines failed (split rest).1)) in
-      let is : first_lines n (session_of read false) ≡ with_lines p lines = ap (first_lines n) (session false) ∙ ap (with_lines p) (take_at lines (map without_return (split rest).0 ++ (split rest).1 ∷ []) n refl) in
+      let part : (failed : Bool) → part_of read failed ≡ Some (record { text = flat_map ended s.front; lines = lines ++ (map without_return (split rest).0 ++ last_lines failed (split rest).1) }) =
+      λ failed. part_at read failed s.front s.head (s.raws ++ (split rest).0) (split rest).1 short parts s.divides
+      ∙ ap (λ l. let x : Part = record { text = flat_map ended s.front; lines = l } in Some x) (ap (λ l. l ++ last_lines failed (split rest).1) (map-append without_return s.raws (split rest).0) ∙ append_assoc lines (map without_return (split rest).0) (last_lines failed (split rest).1)) in
+      let is : first_lines n (session_of job.Run (Accepted p) read false) ≡ with_lines p lines = ap (first_lines n) (session_at p _ _ _ (part false)) ∙ ap (with_lines p) (take_at lines (map without_return (split rest).0 ++ (split rest).1 ∷ []) n refl) in
       record {
         read = read;
         few = omega arith;
         outcomes = record { commands = s.outcomes; input_failed = false; stopped = Some (n, true) };
+        verdict = Accepted p;
+        judged = judged_at p _ _ _ (Some (n, true)) (part false) s.program;
         text = texts p (start_world p) lines s.outcomes;
         does = does_more a b c s.read d.bytes _ none s.does d.does;
         unanswered = [];
         unsaid = omega arith;
         ordered = subst (λ x. OrderedIn a c x s.outcomes []) (sym is) (near_ordered a b c p r r' device line' most s d.does);
-        answer = ap (λ x. close status.Memory (session_text x s.outcomes)) is;
-        complete = inl (omega (arith, ap (λ x. length (lines_of x)) is, ap (λ x. length (lines_of x)) (session true), at_least lines (map without_return (split rest).0 ++ [])));
-        far = inl (omega (arith, ap (λ x. length (lines_of x)) is, ap (λ x. length (lines_of x)) (session true), at_least lines (map without_return (split rest).0 ++ [])));
+        answer = ap (λ x. close (Accepted p) status.Memory (session_text x s.outcomes)) is;
+        complete = inl (omega (arith, ap (λ x. length (lines_of x)) is, ap (λ x. length (part_lines x)) (part true), at_least lines (map without_return (split rest).0 ++ [])));
+        far = inl (omega (arith, ap (λ x. length (lines_of x)) is, ap (λ x. length (part_lines x)) (part true), at_least lines (map without_return (split rest).0 ++ [])));
       }
 
 at_front : (xs : List (List ℕ)) (x : List ℕ) (ys : List (List ℕ)) → take (length xs + 1) (xs ++ x ∷ ys) ≡ xs ++ x ∷ []
@@ -133,11 +141,11 @@ at_front xs x ys = ap (take (length xs + 1)) (sym (append_assoc xs (x ∷ []) ys
 
 module _ (a c e : Seen) (p : Program) (device : DeviceState) (line : List ℕ) (q : Ready a c p device line) where
   -- the session of the lines with this one
-  with_this : first_lines (length q.lines + 1) (session_of q.read false) ≡ with_lines p (q.lines ++ line ∷ [])
+  with_this : first_lines (length q.lines + 1) (session_of job.Run (Accepted p) q.read false) ≡ with_lines p (q.lines ++ line ∷ [])
   with_this = ap (first_lines (length q.lines + 1)) q.session ∙ ap (with_lines p) (at_front q.lines line q.more)
 
   -- the session of the lines without this one
-  without_this : first_lines (length q.lines + 1 - 1) (session_of q.read false) ≡ with_lines p q.lines
+  without_this : first_lines (length q.lines + 1 - 1) (session_of job.Run (Accepted p) q.read false) ≡ with_lines p q.lines
   without_this = ap (first_lines (length q.lines + 1 - 1)) q.session ∙ ap (with_lines p) (take_at q.lines (line ∷ q.more) (length q.lines + 1 - 1) (omega arith))
 
   ordered_with : (os : List Outcome) {bytes text : List ℕ} {f : Faults} → Does c e bytes text f → os ≡ q.outcomes → Ordered a e p (q.lines ++ line ∷ []) os (line ∷ [])
@@ -146,34 +154,36 @@ module _ (a c e : Seen) (p : Program) (device : DeviceState) (line : List ℕ) (
       (ordered_line a e p q.lines line q.outcomes
       (ordered_on a c e p q.lines [] q.outcomes _ _ _ (ordered_on a q.mid c p q.lines [] q.outcomes _ _ _ (ordered_all a q.mid p q.lines q.outcomes q.order) q.noise.moves) d.moves))
 
-  complete_with : {text : List ℕ} {f : Faults} (n : ℕ) → n ≡ length q.lines + 1 → Does c e [] text f → (length (lines_of (first_lines n (session_of q.read false))) ≤ length (lines_of (session_of q.read true))) ⊎ IsAtEnd e
+  complete_with : {text : List ℕ} {f : Faults} (n : ℕ) → n ≡ length q.lines + 1 → Does c e [] text f → (length (lines_of (first_lines n (session_of job.Run (Accepted p) q.read false))) ≤ length (part_lines (part_of q.read true))) ⊎ IsAtEnd e
   complete_with {text} {f} n h d = cases q.complete
     where
-      count : length (lines_of (first_lines n (session_of q.read false))) ≡ length q.lines + 1
-      count = ap (λ k. length (lines_of (first_lines k (session_of q.read false)))) h ∙ ap (λ x. length (lines_of x)) with_this ∙ length_push q.lines line
+      count : length (lines_of (first_lines n (session_of job.Run (Accepted p) q.read false))) ≡ length q.lines + 1
+      count = ap (λ k. length (lines_of (first_lines k (session_of job.Run (Accepted p) q.read false)))) h ∙ ap (λ x. length (lines_of x)) with_this ∙ length_push q.lines line
 
-      cases : (length q.lines + 1 ≤ length (lines_of (session_of q.read true))) ⊎ IsAtEnd c → (length (lines_of (first_lines n (session_of q.read false))) ≤ length (lines_of (session_of q.read true))) ⊎ IsAtEnd e
+      cases : (length q.lines + 1 ≤ length (part_lines (part_of q.read true))) ⊎ IsAtEnd c → (length (lines_of (first_lines n (session_of job.Run (Accepted p) q.read false))) ≤ length (part_lines (part_of q.read true))) ⊎ IsAtEnd e
       cases (inl k) = inl (omega (arith, count))
       cases (inr end) = inr (at_end c e text f d end)
 
   -- memory ran out for the answer
-  pub near_memory : Does c e [] [] none → Near a e status.Memory
+  pub near_memory : Does c e [] [] none → Near job.Run a e status.Memory
   near_memory d = record {
     read = q.read;
     few = omega (arith, q.few);
     outcomes = record { commands = q.outcomes; input_failed = false; stopped = Some (length q.lines + 1, false) };
+    verdict = Accepted p;
+    judged = q.judged (Some (length q.lines + 1, false));
     text = texts p (start_world p) q.lines q.outcomes;
     does = says_more a c e q.read _ [] _ q.does d (sym (append-nil _));
     unanswered = line ∷ [];
     unsaid = omega arith;
     ordered = subst (λ x. OrderedIn a e x q.outcomes (line ∷ [])) (sym with_this) (ordered_with q.outcomes d refl);
-    answer = ap (λ x. close status.Memory (session_text x q.outcomes)) without_this;
+    answer = ap (λ x. close (Accepted p) status.Memory (session_text x q.outcomes)) without_this;
     complete = complete_with (length q.lines + 1) refl d;
     far = complete_with (length q.lines + 1) refl d;
   }
 
   -- an answer broke off
-  pub runs_output : (device' : DeviceState) → TurnBreaks p line device device' c e → Runs a e status.Output
+  pub runs_output : (device' : DeviceState) → TurnBreaks p line device device' c e → Runs job.Run a e status.Output
   runs_output device' t =
       let w = lines_after p (start_world p) q.lines q.outcomes in
       let o = t.answers.outcome in
@@ -182,12 +192,14 @@ module _ (a c e : Seen) (p : Program) (device : DeviceState) (line : List ℕ) (
         read = q.read;
         few = omega (arith, q.few);
         outcomes = record { commands = q.outcomes ++ o ∷ []; input_failed = false; stopped = Some (length q.lines + 1, true) };
+        verdict = Accepted p;
+        judged = q.judged (Some (length q.lines + 1, true));
         text = texts p (start_world p) q.lines q.outcomes ++ d.front;
         does = does_behind a c e q.read (texts p (start_world p) q.lines q.outcomes) d.front none (plus none output_fault) q.does d.does;
         tells = (
-          d.rest ++ status_line status.Memory,
-          ap (λ x. session_text x (q.outcomes ++ o ∷ []) ++ status_line status.Memory) with_this
-              ∙ ap (λ x. x ++ status_line status.Memory) (texts_more p (start_world p) q.lines line q.outcomes o q.same ∙ ap (λ x. texts p (start_world p) q.lines q.outcomes ++ x) (sym (t.answers.says w q.represents) ∙ d.whole))
+          d.rest ++ status_line [] status.Memory,
+          ap (λ x. session_text x (q.outcomes ++ o ∷ []) ++ status_line [] status.Memory) with_this
+              ∙ ap (λ x. x ++ status_line [] status.Memory) (texts_more p (start_world p) q.lines line q.outcomes o q.same ∙ ap (λ x. texts p (start_world p) q.lines q.outcomes ++ x) (sym (t.answers.says w q.represents) ∙ d.whole))
               ∙ simp append_assoc,
         );
         unanswered = line ∷ [];
@@ -197,19 +209,21 @@ module _ (a c e : Seen) (p : Program) (device : DeviceState) (line : List ℕ) (
       }
 
   -- the last line is done
-  pub runs_done : (device' : DeviceState) → q.more ≡ [] → IsAtEnd c → Turns p line device device' c e → Runs a e status.Done
+  pub runs_done : (device' : DeviceState) → q.more ≡ [] → IsAtEnd c → Turns p line device device' c e → Runs job.Run a e status.Done
   runs_done device' last end t =
       let w = lines_after p (start_world p) q.lines q.outcomes in
       let o = t.answers.outcome in
       let lines = q.lines ++ line ∷ [] in
       let os = q.outcomes ++ o ∷ [] in
-      let is : session_of q.read false ≡ with_lines p lines = q.session ∙ ap (λ l. with_lines p (q.lines ++ line ∷ l)) last in
+      let is : session_of job.Run (Accepted p) q.read false ≡ with_lines p lines = q.session ∙ ap (λ l. with_lines p (q.lines ++ line ∷ l)) last in
       let text : t.text ≡ _ = t.answers.says w q.represents in
       let answer = answers_to q.read false p lines os status.Done is (ends_done q.read q.few) in
       record {
         read = q.read;
         few = omega (arith, q.few);
         outcomes = record { commands = os; input_failed = false; stopped = None };
+        verdict = Accepted p;
+        judged = q.judged None;
         text = texts p (start_world p) lines os;
         does = says_more a c e q.read _ t.text _ q.does t.does (texts_more p (start_world p) q.lines line q.outcomes o q.same ∙ ap (λ x. texts p (start_world p) q.lines q.outcomes ++ x) (sym text));
         tells = (ap (λ (x : List ℕ × Status). x.0) answer ∙ append-nil _, ap (λ (x : List ℕ × Status). x.1) answer);
@@ -247,24 +261,25 @@ well_plus : (f : Bool) → plus (faults_of f false) none ≡ faults_of f false
 well_plus true = refl
 well_plus false = refl
 
-separated_on : (read : List ℕ) (b c : Seen) {text : List ℕ} {f : Faults} → Does b c [] text f → HasSeparator read ⊎ IsAtEnd b → HasSeparator read ⊎ IsAtEnd c
+pub separated_on : (read : List ℕ) (b c : Seen) {text : List ℕ} {f : Faults} → Does b c [] text f → HasSeparator read ⊎ IsAtEnd b → HasSeparator read ⊎ IsAtEnd c
 separated_on read b c d (inl h) = inl h
 separated_on read b c d (inr h) = inr (at_end b c _ _ d h)
 
-far_on : (s : Status) (read : List ℕ) (o : Outcomes) (b c : Seen) {text : List ℕ} {f : Faults} → Does b c [] text f → ReadFar s read o b → ReadFar s read o c
-far_on status.Done read o b c d h = at_end b c _ _ d h
-far_on status.Program read o b c d h = (h.0, separated_on read b c d h.1)
-far_on status.Memory read o b c d (inl h) = inl h
-far_on status.Memory read o b c d (inr h) = inr (at_end b c _ _ d h)
-far_on status.Output read o b c d (inl h) = inl h
-far_on status.Output read o b c d (inr h) = inr (at_end b c _ _ d h)
-far_on status.Words read o b c d h = h
-far_on status.Store read o b c d h = h
-far_on status.OtherProgram read o b c d h = h
-far_on status.Disk read o b c d h = h
-far_on status.Input read o b c d h = h
-far_on status.TooLong read o b c d h = h
-far_on status.Line read o b c d h = h
+far_on : (j : Job) (s : Status) (v : Verdict) (read : List ℕ) (o : Outcomes) (b c : Seen) {text : List ℕ} {f : Faults} → Does b c [] text f → ReadFar j s v read o b → ReadFar j s v read o c
+far_on job.Run status.Done v read o b c d h = at_end b c _ _ d h
+far_on job.Check status.Done v read o b c d h = (h.0, separated_on read b c d h.1)
+far_on j status.Program v read o b c d h = (h.0, separated_on read b c d h.1)
+far_on j status.Memory v read o b c d (inl h) = inl h
+far_on j status.Memory v read o b c d (inr h) = inr (at_end b c _ _ d h)
+far_on j status.Output v read o b c d (inl h) = inl h
+far_on j status.Output v read o b c d (inr h) = inr (at_end b c _ _ d h)
+far_on j status.Words v read o b c d h = h
+far_on j status.Store v read o b c d h = h
+far_on j status.OtherProgram v read o b c d h = h
+far_on j status.Disk v read o b c d h = h
+far_on j status.Input v read o b c d h = h
+far_on j status.TooLong v read o b c d h = h
+far_on j status.Line v read o b c d h = h
 
 -- a status that isn't 8 is told with all of the answers
 tells_all : (s : Status) (a : List ℕ × Status) (text : List ℕ) → (s ≡ status.Output → ⊥) → a.0 ≡ text → a.1 ≡ s → Tells a text s
@@ -293,47 +308,51 @@ not_output status.Memory h = refl
 not_output status.TooLong h = refl
 not_output status.Line h = refl
 
-module _ (a b c : Seen) (s : Status) (n : Near a b s) where
+module _ (j : Job) (a b c : Seen) (s : Status) (n : Near j a b s) where
   -- the last line is said whole
-  near_said : (s ≡ status.Output → ⊥) → Does b c [] (status_line s) none → Runs a c s
+  near_said : (s ≡ status.Output → ⊥) → Does b c [] (status_line (refusal_text n.verdict) s) none → Runs j a c s
   near_said h d = record {
     read = n.read;
     few = n.few;
     outcomes = n.outcomes;
-    text = n.text ++ status_line s;
-    does = subst (Does a c n.read (n.text ++ status_line s)) (well_plus n.outcomes.input_failed ∙ ap (faults_of n.outcomes.input_failed) (sym (not_output s h))) (does_behind a b c n.read n.text (status_line s) _ none n.does d);
-    tells = tells_all s (answers n.read n.outcomes) (n.text ++ status_line s) h (ap (λ (x : List ℕ × Status). x.0) n.answer) (ap (λ (x : List ℕ × Status). x.1) n.answer);
+    verdict = n.verdict;
+    judged = n.judged;
+    text = n.text ++ status_line (refusal_text n.verdict) s;
+    does = subst (Does a c n.read (n.text ++ status_line (refusal_text n.verdict) s)) (well_plus n.outcomes.input_failed ∙ ap (faults_of n.outcomes.input_failed) (sym (not_output s h))) (does_behind a b c n.read n.text (status_line (refusal_text n.verdict) s) _ none n.does d);
+    tells = tells_all s (answers j n.verdict n.read n.outcomes) (n.text ++ status_line (refusal_text n.verdict) s) h (ap (λ (x : List ℕ × Status). x.0) n.answer) (ap (λ (x : List ℕ × Status). x.1) n.answer);
     unanswered = n.unanswered;
     whole = n.unsaid;
-    ordered = ordered_in_on a b c (done n.read n.outcomes) n.outcomes.commands n.unanswered n.ordered d;
-    far = far_on s n.read n.outcomes b c d n.far;
+    ordered = ordered_in_on a b c (done j n.verdict n.read n.outcomes) n.outcomes.commands n.unanswered n.ordered d;
+    far = far_on j s n.verdict n.read n.outcomes b c d n.far;
   }
 
   -- the last line breaks off
-  near_broke : Breaks b c (status_line s) none → Runs a c status.Output
+  near_broke : Breaks b c (status_line (refusal_text n.verdict) s) none → Runs j a c status.Output
   near_broke d = record {
     read = n.read;
     few = n.few;
     outcomes = n.outcomes;
+    verdict = n.verdict;
+    judged = n.judged;
     text = n.text ++ d.front;
     does = subst (Does a c n.read (n.text ++ d.front)) (broken_plus n.outcomes.input_failed) (does_behind a b c n.read n.text d.front _ _ n.does d.does);
     tells = (d.rest, ap (λ (x : List ℕ × Status). x.0) n.answer ∙ ap (λ t. n.text ++ t) d.whole ∙ sym (append_assoc n.text d.front d.rest));
     unanswered = n.unanswered;
     whole = at_most s n.unanswered n.unsaid;
-    ordered = ordered_in_on a b c (done n.read n.outcomes) n.outcomes.commands n.unanswered n.ordered d.does;
-    far = far_on status.Output n.read n.outcomes b c d.does n.complete;
+    ordered = ordered_in_on a b c (done j n.verdict n.read n.outcomes) n.outcomes.commands n.unanswered n.ordered d.does;
+    far = far_on j status.Output n.verdict n.read n.outcomes b c d.does n.complete;
   }
 
   -- the last line is said, or breaks off
-  pub near_finish : (x : Status) → (s ≡ status.Output → ⊥) → Finishes b c s x → Runs a c x
+  pub near_finish : (x : Status) → (s ≡ status.Output → ⊥) → Finishes b c (status_line (refusal_text n.verdict) s) s x → Runs j a c x
   near_finish status.Output h d = near_broke d
-  near_finish status.Done h d = subst (Runs a c) (sym d.0) (near_said h d.1)
-  near_finish status.Words h d = subst (Runs a c) (sym d.0) (near_said h d.1)
-  near_finish status.Program h d = subst (Runs a c) (sym d.0) (near_said h d.1)
-  near_finish status.Store h d = subst (Runs a c) (sym d.0) (near_said h d.1)
-  near_finish status.OtherProgram h d = subst (Runs a c) (sym d.0) (near_said h d.1)
-  near_finish status.Disk h d = subst (Runs a c) (sym d.0) (near_said h d.1)
-  near_finish status.Input h d = subst (Runs a c) (sym d.0) (near_said h d.1)
-  near_finish status.Memory h d = subst (Runs a c) (sym d.0) (near_said h d.1)
-  near_finish status.TooLong h d = subst (Runs a c) (sym d.0) (near_said h d.1)
-  near_finish status.Line h d = subst (Runs a c) (sym d.0) (near_said h d.1)
+  near_finish status.Done h d = subst (Runs j a c) (sym d.0) (near_said h d.1)
+  near_finish status.Words h d = subst (Runs j a c) (sym d.0) (near_said h d.1)
+  near_finish status.Program h d = subst (Runs j a c) (sym d.0) (near_said h d.1)
+  near_finish status.Store h d = subst (Runs j a c) (sym d.0) (near_said h d.1)
+  near_finish status.OtherProgram h d = subst (Runs j a c) (sym d.0) (near_said h d.1)
+  near_finish status.Disk h d = subst (Runs j a c) (sym d.0) (near_said h d.1)
+  near_finish status.Input h d = subst (Runs j a c) (sym d.0) (near_said h d.1)
+  near_finish status.Memory h d = subst (Runs j a c) (sym d.0) (near_said h d.1)
+  near_finish status.TooLong h d = subst (Runs j a c) (sym d.0) (near_said h d.1)
+  near_finish status.Line h d = subst (Runs j a c) (sym d.0) (near_said h d.1)

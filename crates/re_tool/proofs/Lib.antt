@@ -1,4 +1,6 @@
 pub mod Caused
+pub mod Checks
+pub mod Judging
 pub mod Clipping
 pub mod Orders
 pub mod Programs
@@ -13,15 +15,12 @@ pub mod Sessions
 pub mod Splits
 pub mod Starting
 pub mod VarWords
+pub mod Settling
 pub mod Bodies
+pub mod BuiltPrograms
 pub mod Devices
 pub mod Evaluated
 pub mod Marking
 pub mod SumMeanings
-pub mod Adding
-pub mod Building
-pub mod Declaring
 pub mod Marks
 pub mod NameTables
-pub mod Naming
-pub mod Splitting

@@ -4,19 +4,19 @@ use Rattle.std.specs.Prelude.{nat_lt, nat_le, ◌==◌, ◌&&◌, if◌then◌el
 use Rattle.re_terms.specs.declared.program.Body.{Body}
 use Rattle.re_terms.specs.declared.program.Decl.{Decl}
 use Rattle.re_terms.specs.declared.program.Program.{Program}
-use Rattle.re_terms.specs.declared.program.Body.TheVariants as body
 use Rattle.re_terms.specs.Plain.{Turn}
 use Rattle.re_terms.specs.World.{World, Outcome, Fine, Memory, Refused, PlainCommand, TakeTurn, Get, world_after, last_number}
 use Rattle.std.proofs.lemmas.Bool.{le-ltb, le-leb, leb-true, ltb-false, eqb-true}
 use Rattle.re_tool.specs.declared.device.Command.{Command}
 use Rattle.re_tool.specs.declared.device.Answer.{Answer}
-use Rattle.re_tool.specs.Device.{DeviceState, Represents, Steps, plain_command, is_var_body, is_valued_body}
+use Rattle.re_tool.specs.Device.{DeviceState, Represents, Steps, plain_command}
 use Rattle.re_tool.specs.Device as device
 use Rattle.re_tool.specs.declared.command.Line.{Line}
 use Rattle.re_tool.specs.declared.command.Line.TheVariants as line
 use Rattle.re_tool.specs.Answers.{line_text, line_after}
 use Rattle.re_tool.specs.Commands.{is_name, turn_of, get_of, command_of, line_of}
-use Rattle.re_tool.specs.Grammar.{only_if, is_sign, equals, is_device, is_var, is_value, placed, place_of, names_in, behind, named, is_none_left, literal_of}
+use Rattle.re_terms.specs.Programs.{names_of, is_device_body}
+use Rattle.re_tool.specs.Patterns.{only_if, is_sign, equals, is_var_body, is_valued_body, placed, place_of, behind, named, is_none_left, literal_of}
 use Rattle.re_tool.specs.Texts.{reply_text}
 use Rattle.re_tool.specs.Tokens.{Mark, marks_of, marks_step, mark_then, first_mark, skipped}
 use Rattle.re_tool.specs.Serving.{is_blank_line}
@@ -37,7 +37,7 @@ only_if_is false x y h = absurd (cc)
 
 pub placed_is : (test : Body → Bool) (decls : List Decl) (name : List ℕ) (id : ℕ) → placed test decls name ≡ Some id → (d : Decl) × (slice_get decls id ≡ Some d) × (test d.body ≡ true)
 placed_is test decls name id h =
-    let a = through (place_of (names_in decls) name) _ id h in
+    let a = through (place_of (names_of decls) name) _ id h in
     let b = through (slice_get decls a.value) _ id a.then_is in
     let e = only_if_is (test b.value.body) a.value id b.then_is in
     (b.value, ap (slice_get decls) (sym e.1) ∙ b.is, e.0)
@@ -48,21 +48,21 @@ pub record IsTurn (decls : List Decl) (x : Line) : Type 0 where
   pub number : ℤ
   pub name : List ℕ
   pub is : x ≡ line.Turn id number
-  pub placed_at : placed is_var decls name ≡ Some id
+  pub placed_at : placed is_var_body decls name ≡ Some id
 
 -- a get names a var or a signal
 pub record IsGet (decls : List Decl) (x : Line) : Type 0 where
   pub id : ℕ
   pub name : List ℕ
   pub is : x ≡ line.Get id
-  pub placed_at : placed is_value decls name ≡ Some id
+  pub placed_at : placed is_valued_body decls name ≡ Some id
 
 turn_is : (decls : List Decl) (marks : List Mark) (x : Line) → turn_of decls marks ≡ Some x → IsTurn decls x
 turn_is decls marks x h =
     let a = through (named marks) _ x h in
-    let b = through (placed is_device decls a.value.0) _ x a.then_is in
+    let b = through (placed is_device_body decls a.value.0) _ x a.then_is in
     let c = through (named a.value.1) _ x b.then_is in
-    let d = through (placed is_var decls c.value.0) _ x c.then_is in
+    let d = through (placed is_var_body decls c.value.0) _ x c.then_is in
     let e = through (behind (is_sign equals) c.value.1) _ x d.then_is in
     let f = through (literal_of e.value) _ x e.then_is in
     record { id = d.value; number = f.value; name = c.value.0; is = sym (some_is f.then_is); placed_at = d.is }
@@ -73,9 +73,9 @@ turn_is decls marks x h =
 get_is : (decls : List Decl) (marks : List Mark) (x : Line) → get_of decls marks ≡ Some x → IsGet decls x
 get_is decls marks x h =
     let a = through (named marks) _ x h in
-    let b = through (placed is_device decls a.value.0) _ x a.then_is in
+    let b = through (placed is_device_body decls a.value.0) _ x a.then_is in
     let c = through (named a.value.1) _ x b.then_is in
-    let d = through (placed is_value decls c.value.0) _ x c.then_is in
+    let d = through (placed is_valued_body decls c.value.0) _ x c.then_is in
     let e = only_if_is (is_none_left c.value.1) (line.Get d.value) x d.then_is in
     record { id = d.value; name = c.value.0; is = sym e.1; placed_at = d.is }
 
@@ -109,44 +109,35 @@ inner decls false (Some marks) x h n = (refl, record { value = marks; is = refl;
 inside : (p : Program) (l : List ℕ) (x : Line) → line_of p l ≡ x → (x ≡ line.Bad → ⊥) → (nat_lt 1024 (length l) ≡ false) × Through (marks_of l) (command_of p.decls.items) x
 inside p l x h n = inner p.decls.items (nat_lt 1024 (length l)) (marks_of l) x h n
 
-turn_kind : (decls : List Decl) (marks : List Mark) (id : ℕ) (number : ℤ) → Kinds decls marks (line.Turn id number) → (d : Decl) × (slice_get decls id ≡ Some d) × (is_var d.body ≡ true)
+turn_kind : (decls : List Decl) (marks : List Mark) (id : ℕ) (number : ℤ) → Kinds decls marks (line.Turn id number) → (d : Decl) × (slice_get decls id ≡ Some d) × (is_var_body d.body ≡ true)
 turn_kind decls marks id number (inl h) = absurd (cc)
 turn_kind decls marks id number (inr (inl t)) =
     let e : t.id ≡ id = cc in
-    placed_is is_var decls t.name id (t.placed_at ∙ ap Some e)
+    placed_is is_var_body decls t.name id (t.placed_at ∙ ap Some e)
 turn_kind decls marks id number (inr (inr t)) = absurd (cc)
 
-get_kind : (decls : List Decl) (marks : List Mark) (id : ℕ) → Kinds decls marks (line.Get id) → (d : Decl) × (slice_get decls id ≡ Some d) × (is_value d.body ≡ true)
+get_kind : (decls : List Decl) (marks : List Mark) (id : ℕ) → Kinds decls marks (line.Get id) → (d : Decl) × (slice_get decls id ≡ Some d) × (is_valued_body d.body ≡ true)
 get_kind decls marks id (inl h) = absurd (cc)
 get_kind decls marks id (inr (inl t)) = absurd (cc)
 get_kind decls marks id (inr (inr t)) =
     let e : t.id ≡ id = cc in
-    placed_is is_value decls t.name id (t.placed_at ∙ ap Some e)
+    placed_is is_valued_body decls t.name id (t.placed_at ∙ ap Some e)
 
-pub turn_declared : (p : Program) (l : List ℕ) (id : ℕ) (number : ℤ) → line_of p l ≡ line.Turn id number → (d : Decl) × (slice_get p.decls.items id ≡ Some d) × (is_var d.body ≡ true)
+pub turn_declared : (p : Program) (l : List ℕ) (id : ℕ) (number : ℤ) → line_of p l ≡ line.Turn id number → (d : Decl) × (slice_get p.decls.items id ≡ Some d) × (is_var_body d.body ≡ true)
 turn_declared p l id number h =
     let t = inside p l (line.Turn id number) h (λ e. absurd (cc)) in
     turn_kind p.decls.items t.1.value id number (command_kinds p.decls.items t.1.value (line.Turn id number) t.1.then_is)
 
-pub get_declared : (p : Program) (l : List ℕ) (id : ℕ) → line_of p l ≡ line.Get id → (d : Decl) × (slice_get p.decls.items id ≡ Some d) × (is_value d.body ≡ true)
+pub get_declared : (p : Program) (l : List ℕ) (id : ℕ) → line_of p l ≡ line.Get id → (d : Decl) × (slice_get p.decls.items id ≡ Some d) × (is_valued_body d.body ≡ true)
 get_declared p l id h =
     let t = inside p l (line.Get id) h (λ e. absurd (cc)) in
     get_kind p.decls.items t.1.value id (command_kinds p.decls.items t.1.value (line.Get id) t.1.then_is)
 
-same_var : (b : Body) → is_var b ≡ is_var_body b
-same_var (body.Var kind start region) = refl
-same_var b = refl
-
-same_value : (b : Body) → is_value b ≡ is_valued_body b
-same_value (body.Var kind start region) = refl
-same_value (body.Signal kind expr) = refl
-same_value b = refl
-
 pub turn_meant : (p : Program) (l : List ℕ) (id : ℕ) (number : ℤ) → line_of p l ≡ line.Turn id number → device.is_var (slice_get p.decls.items id) ≡ true
-turn_meant p l id number h = let d = turn_declared p l id number h in ap device.is_var d.1 ∙ sym (same_var d.0.body) ∙ d.2
+turn_meant p l id number h = let d = turn_declared p l id number h in ap device.is_var d.1 ∙ d.2
 
 pub get_meant : (p : Program) (l : List ℕ) (id : ℕ) → line_of p l ≡ line.Get id → device.is_valued (slice_get p.decls.items id) ≡ true
-get_meant p l id h = let d = get_declared p l id h in ap device.is_valued d.1 ∙ sym (same_value d.0.body) ∙ d.2
+get_meant p l id h = let d = get_declared p l id h in ap device.is_valued d.1 ∙ d.2
 
 -- ---- blank lines
 

@@ -75,9 +75,6 @@ act_said a b text d = record {
 }
 
 -- nothing was done before
-pub order_read : (a b : Seen) (p : Program) (bytes : List ℕ) → Does a b bytes [] none → (mid : Seen) × Order a mid p [] [] × Does mid b bytes [] none
-order_read a b p bytes d = (a, record { front = []; told = refl; acts = refl; trace = λ t. sym (append-nil a.trace) }, d)
-
 pub order_nil : (s : Seen) (p : Program) → Order s s p [] []
 order_nil s p = record { front = []; told = refl; acts = refl; trace = λ t. sym (append-nil s.trace) }
 

@@ -1,24 +1,65 @@
 -- What is kept of lines and of a program part decides what they are.
-use Rattle.std.proofs.Common.{arith, ◌≡◌, ◌≤◌, ◌<◌, ℕ, List, length, take, sym, ◌∙◌, ap, refl, ◌⊎◌, inl, inr, None, length-take}
+use Rattle.std.proofs.Common.{arith, ◌≡◌, ◌≤◌, ◌<◌, ℕ, List, length, take, sym, ◌∙◌, ap, subst, refl, ◌⊎◌, inl, inr, length-take}
 use Rattle.std.proofs.lemmas.Bool.{lt-ltb, cases_lt}
 use Rattle.std.proofs.lemmas.List.{take_all}
 use Rattle.re_terms.specs.declared.program.Program.{Program}
 use Rattle.re_tool.specs.declared.command.Line.TheVariants.{Bad}
+use Rattle.re_tool.specs.declared.words.Job.{Job}
+use Rattle.re_tool.specs.declared.words.Job.TheVariants as job
 use Rattle.re_tool.specs.Commands.{line_of}
-use Rattle.re_tool.specs.Grammar.{program_of}
 use Rattle.re_tool.specs.Lines.{without_return}
+use Rattle.re_tool.specs.Verdict.{Verdict, Unknown, Rejected, Accepted, Judges, too_long, no_token, unexpected, too_deep, whole, HasVerdict, Decides}
 use Rattle.re_tool.proofs.Clipping.{length-without_return}
 
-program-long : (text : List ℕ) → 65536 < length text → program_of text ≡ None
-program-long text h = rw (lt-ltb 65536 (length text) h) refl
+-- a text that is too long is refused as such, and so is what is kept of it
+long_kept : {text : List ℕ} (v : Verdict) → 65537 < length text → Judges (take 65537 text) v → Judges text v
+long_kept {text} v long (too_long h e) = too_long (omega arith) e
+long_kept {text} v long (no_token h n e) = absurd (omega (arith, length-take 65537 text))
+long_kept {text} v long (unexpected t u e) = absurd (let k = t.few in omega (arith, length-take 65537 text))
+long_kept {text} v long (too_deep t d e) = absurd (let k = t.few in omega (arith, length-take 65537 text))
+long_kept {text} v long (whole t e) = absurd (let k = t.has.few in omega (arith, length-take 65537 text))
 
-program_cases : (text : List ℕ) → (65537 < length text) ⊎ (length text ≤ 65537) → program_of (take 65537 text) ≡ program_of text
-program_cases text (inr h) = ap program_of (take_all 65537 text h)
-program_cases text (inl h) = program-long (take 65537 text) (omega (arith, length-take 65537 text)) ∙ sym (program-long text (omega arith))
+judged_kept : (text : List ℕ) (v : Verdict) → (65537 < length text) ⊎ (length text ≤ 65537) → Judges (take 65537 text) v → Judges text v
+judged_kept text v (inl long) j = long_kept v long j
+judged_kept text v (inr short) j = subst (λ t. Judges t v) (take_all 65537 text short) j
 
--- what is kept of a program part is the same program
-pub program-kept : (text : List ℕ) → program_of (take 65537 text) ≡ program_of text
-program-kept text = program_cases text (cases_lt 65537 (length text))
+judged : (text : List ℕ) (v : Verdict) → Judges (take 65537 text) v → Judges text v
+judged text v j = judged_kept text v (cases_lt 65537 (length text)) j
+
+-- the converse
+long_back : {text : List ℕ} (v : Verdict) → 65537 < length text → Judges text v → Judges (take 65537 text) v
+long_back {text} v long (too_long h e) = too_long (omega (arith, length-take 65537 text)) e
+long_back {text} v long (no_token h n e) = absurd (omega arith)
+long_back {text} v long (unexpected t u e) = absurd (let k = t.few in omega arith)
+long_back {text} v long (too_deep t d e) = absurd (let k = t.few in omega arith)
+long_back {text} v long (whole t e) = absurd (let k = t.has.few in omega arith)
+
+judged_back : (text : List ℕ) (v : Verdict) → (65537 < length text) ⊎ (length text ≤ 65537) → Judges text v → Judges (take 65537 text) v
+judged_back text v (inl long) j = long_back v long j
+judged_back text v (inr short) j = subst (λ t. Judges t v) (sym (take_all 65537 text short)) j
+
+back : (text : List ℕ) (v : Verdict) → Judges text v → Judges (take 65537 text) v
+back text v j = judged_back text v (cases_lt 65537 (length text)) j
+
+has_kept : (j : Job) (text : List ℕ) (v : Verdict) → HasVerdict j (take 65537 text) v → HasVerdict j text v
+has_kept j text Unknown h = h
+has_kept job.Check text (Rejected why) h = judged text (Rejected why) h
+has_kept job.Check text (Accepted p) h = judged text (Accepted p) h
+has_kept job.Run text (Rejected why) (inl h) = inl (judged text (Rejected why) h)
+has_kept job.Run text (Rejected why) (inr h) = inr record { program = h.program; accepted = judged text (Accepted h.program) h.accepted; unbuilt = h.unbuilt; is = h.is }
+has_kept job.Run text (Accepted p) h = (judged text (Accepted p) h.0, h.1)
+
+has_back : (j : Job) (text : List ℕ) (v : Verdict) → HasVerdict j text v → HasVerdict j (take 65537 text) v
+has_back j text Unknown h = h
+has_back job.Check text (Rejected why) h = back text (Rejected why) h
+has_back job.Check text (Accepted p) h = back text (Accepted p) h
+has_back job.Run text (Rejected why) (inl h) = inl (back text (Rejected why) h)
+has_back job.Run text (Rejected why) (inr h) = inr record { program = h.program; accepted = back text (Accepted h.program) h.accepted; unbuilt = h.unbuilt; is = h.is }
+has_back job.Run text (Accepted p) h = (back text (Accepted p) h.0, h.1)
+
+-- what is kept of a program part has its verdict and no other
+pub verdict-kept : (j : Job) (text : List ℕ) (v : Verdict) → Decides j (take 65537 text) v → Decides j text v
+verdict-kept j text v d = record { has = has_kept j text v d.has; only = λ w h. d.only w (has_back j text w h) }
 
 line-long : (p : Program) (line : List ℕ) → 1024 < length line → line_of p line ≡ Bad
 line-long p line h = rw (lt-ltb 1024 (length line) h) refl

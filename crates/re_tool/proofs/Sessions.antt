@@ -8,18 +8,20 @@ use Rattle.re_outside.proofs.Does.{does-nil, does_well, does_as}
 use Rattle.re_terms.specs.declared.program.Program.{Program}
 use Rattle.re_terms.specs.World.{Outcome, start_world}
 use Rattle.re_tool.specs.declared.reader.Reader.{Reader}
+use Rattle.re_tool.specs.declared.words.Job.{Job}
+use Rattle.re_tool.specs.declared.words.Job.TheVariants as job
 use Rattle.re_tool.specs.declared.status.Status.{Status}
 use Rattle.re_tool.specs.Acts.{Order, Ordered, OrderedIn}
 use Rattle.re_tool.specs.Answers.{Outcomes, Session, texts, lines_after, line_text, line_after, session_of, session_in, answers, done, close}
 use Rattle.re_tool.specs.Clipped.{Clipped}
 use Rattle.re_tool.specs.Commands.{line_of}
 use Rattle.re_tool.specs.Device.{DeviceState, Represents}
-use Rattle.re_tool.specs.Grammar.{program_of}
 use Rattle.re_tool.specs.Lines.{split, ended, IsPlain, ArePlain, without_return}
-use Rattle.re_tool.specs.Part.{Part, divided, part_in, last_lines}
+use Rattle.re_tool.specs.Part.{Part, divided, part_of, part_in, last_lines}
 use Rattle.re_tool.specs.Reads.{Reads, limit}
 use Rattle.re_tool.specs.Serving.{AnswersLine, Turns, TurnBreaks, Starts}
-use Rattle.re_tool.specs.Session.{Unanswered, AreComplete, ReadFar, lines_of, faults_of}
+use Rattle.re_tool.specs.Session.{Unanswered, AreComplete, ReadFar, part_lines, faults_of}
+use Rattle.re_tool.specs.Verdict.{Verdict, Accepted, Decides, IsJudged}
 use Rattle.re_tool.proofs.Orders.{texts_more, after-append, order_nil, order_more, ordered_all, ordered_on}
 use Rattle.re_tool.proofs.Parts.{read_more, taken_more, does_more}
 use Rattle.re_tool.proofs.Splits.{plain_more, split_lines, split_last, flat_more, part_short, part_long}
@@ -38,7 +40,7 @@ pub record SoFar (a b : Seen) (p : Program) (r : Reader) (device : DeviceState) 
   pub same : length outcomes ≡ length (map without_return raws)
   pub plain : ArePlain (head ++ raws)
   pub divides : (lines : List (List ℕ)) → divided (head ++ lines) ≡ Some (front, lines)
-  pub program : program_of (flat_map ended front) ≡ Some p
+  pub program : Decides job.Run (flat_map ended front) (Accepted p)
   pub whole : read ≡ flat_map ended (head ++ raws) ++ r.chunk
   pub taken : r.taken ≡ length read
   pub few : r.taken ≤ limit
@@ -57,10 +59,11 @@ pub record Ready (a b : Seen) (p : Program) (device : DeviceState) (line : List 
   pub read : List ℕ
   pub more : List (List ℕ)
   pub same : length outcomes ≡ length lines
-  pub session : session_of read false ≡ with_lines p (lines ++ line ∷ more)
+  pub session : session_of job.Run (Accepted p) read false ≡ with_lines p (lines ++ line ∷ more)
+  pub judged : (stopped : Option (ℕ × Bool)) → IsJudged job.Run (Accepted p) (part_of read false) stopped
   pub few : length read ≤ limit
   -- the line is a whole one, or the input is at its end
-  pub complete : (length lines + 1 ≤ length (lines_of (session_of read true))) ⊎ IsAtEnd b
+  pub complete : (length lines + 1 ≤ length (part_lines (part_of read true))) ⊎ IsAtEnd b
   pub does : Does a b read (texts p (start_world p) lines outcomes) none
   pub represents : Represents p (lines_after p (start_world p) lines outcomes) device
   pub mid : Seen
@@ -69,18 +72,20 @@ pub record Ready (a b : Seen) (p : Program) (device : DeviceState) (line : List 
   pub noise : Does mid b ahead [] none
 
 -- All is said but the last line.
-pub record Near (a b : Seen) (s : Status) : Type 0 where
+pub record Near (j : Job) (a b : Seen) (s : Status) : Type 0 where
   pub read : List ℕ
   pub few : length read ≤ limit + 1
   pub outcomes : Outcomes
+  pub verdict : Verdict
+  pub judged : IsJudged j verdict (part_of read outcomes.input_failed) outcomes.stopped
   pub text : List ℕ
   pub does : Does a b read text (faults_of outcomes.input_failed false)
   pub unanswered : List (List ℕ)
   pub unsaid : Unanswered s unanswered
-  pub ordered : OrderedIn a b (done read outcomes) outcomes.commands unanswered
-  pub answer : answers read outcomes ≡ close s text
-  pub complete : AreComplete read outcomes ⊎ IsAtEnd b
-  pub far : ReadFar s read outcomes b
+  pub ordered : OrderedIn a b (done j verdict read outcomes) outcomes.commands unanswered
+  pub answer : answers j verdict read outcomes ≡ close verdict s text
+  pub complete : AreComplete j verdict read outcomes ⊎ IsAtEnd b
+  pub far : ReadFar j s verdict read outcomes b
 
 pub starts_so_far : (a b : Seen) (p : Program) (r : Reader) (device : DeviceState) → Starts a b p r device → SoFar a b p r device
 starts_so_far a b p r device s = record {
@@ -104,23 +109,29 @@ starts_so_far a b p r device s = record {
   noise = s.does;
 }
 
--- the session of lines behind a separator
-pub session_at : (read : List ℕ) (failed : Bool) (front head raws : List (List ℕ)) (rest : List ℕ) (p : Program) → length read ≤ limit → split read ≡ (head ++ raws, rest) → ((lines : List (List ℕ)) → divided (head ++ lines) ≡ Some (front, lines)) → program_of (flat_map ended front) ≡ Some p
-    → session_of read failed ≡ with_lines p (map without_return raws ++ last_lines failed rest)
-session_at read failed front head raws rest p few parts divides program =
+-- the program part and the lines behind a separator
+pub part_at : (read : List ℕ) (failed : Bool) (front head raws : List (List ℕ)) (rest : List ℕ) → length read ≤ limit → split read ≡ (head ++ raws, rest) → ((lines : List (List ℕ)) → divided (head ++ lines) ≡ Some (front, lines))
+    → part_of read failed ≡ Some (record { text = flat_map ended front; lines = map without_return raws ++ last_lines failed rest })
+part_at read failed front head raws rest few parts divides =
     let part : Part = record { text = flat_map ended front; lines = map without_return raws ++ last_lines failed rest } in
     let is : part_in (head ++ raws, rest) failed ≡ Some part = rw (divides raws) refl in
-    let begun : session_in (Some part) ≡ with_lines p (map without_return raws ++ last_lines failed rest) = rw program refl in
-    ap session_in (part_short read failed few ∙ ap (λ q. part_in q failed) parts ∙ is) ∙ begun
+    part_short read failed few ∙ ap (λ q. part_in q failed) parts ∙ is
 
 -- the same of bytes that are cut at the limit
-pub session_cut : (read : List ℕ) (failed : Bool) (front head raws : List (List ℕ)) (rest : List ℕ) (p : Program) → limit < length read → split (take limit read) ≡ (head ++ raws, rest) → ((lines : List (List ℕ)) → divided (head ++ lines) ≡ Some (front, lines)) → program_of (flat_map ended front) ≡ Some p
-    → session_of read failed ≡ with_lines p (map without_return raws ++ [])
-session_cut read failed front head raws rest p over parts divides program =
+pub part_cut : (read : List ℕ) (failed : Bool) (front head raws : List (List ℕ)) (rest : List ℕ) → limit < length read → split (take limit read) ≡ (head ++ raws, rest) → ((lines : List (List ℕ)) → divided (head ++ lines) ≡ Some (front, lines))
+    → part_of read failed ≡ Some (record { text = flat_map ended front; lines = map without_return raws ++ [] })
+part_cut read failed front head raws rest over parts divides =
     let part : Part = record { text = flat_map ended front; lines = map without_return raws ++ [] } in
     let is : part_in (head ++ raws, rest) true ≡ Some part = rw (divides raws) refl in
-    let begun : session_in (Some part) ≡ with_lines p (map without_return raws ++ []) = rw program refl in
-    ap session_in (part_long read failed over ∙ ap (λ q. part_in q true) parts ∙ is) ∙ begun
+    part_long read failed over ∙ ap (λ q. part_in q true) parts ∙ is
+
+-- the program that a part is
+pub judged_at : (p : Program) (part : Option Part) (text : List ℕ) (lines : List (List ℕ)) (stopped : Option (ℕ × Bool)) → part ≡ Some (record { text = text; lines = lines }) → Decides job.Run text (Accepted p) → IsJudged job.Run (Accepted p) part stopped
+judged_at p part text lines stopped is h = subst (λ x. IsJudged job.Run (Accepted p) x stopped) (sym is) (inl h)
+
+-- the session of a part whose program is accepted
+pub session_at : (p : Program) (part : Option Part) (text : List ℕ) (lines : List (List ℕ)) → part ≡ Some (record { text = text; lines = lines }) → session_in (Accepted p) part ≡ with_lines p lines
+session_at p part text lines is = ap (session_in (Accepted p)) is
 
 raws_more : (raws : List (List ℕ)) (line : List ℕ) (more : List (List ℕ)) → map without_return (raws ++ line ∷ more) ≡ map without_return raws ++ without_return line ∷ map without_return more
 raws_more raws line more = map-append without_return raws (line ∷ more)
@@ -165,11 +176,11 @@ module _ (a b c : Seen) (p : Program) (r r' : Reader) (device : DeviceState) (li
   whole_line : (d : Reads r r' line' most b c (10 ∷ []) none) → s.read ++ d.bytes ≡ flat_map ended (s.head ++ s.raws) ++ (d.line ++ 10 ∷ r'.chunk)
   whole_line d = read_more (flat_map ended (s.head ++ s.raws)) s.read r.chunk d.bytes d.line (10 ∷ r'.chunk) s.whole d.whole
 
-  session_line : (d : Reads r r' line' most b c (10 ∷ []) none) → r'.taken ≤ limit → (failed : Bool)
-      → session_of (s.read ++ d.bytes) failed ≡ with_lines p (map without_return s.raws ++ without_return d.line ∷ (map without_return (split r'.chunk).0 ++ last_lines failed (split r'.chunk).1))
-  session_line d few failed =
-      session_at (s.read ++ d.bytes) failed s.front s.head (s.raws ++ d.line ∷ (split r'.chunk).0) (split r'.chunk).1 p (omega (arith, size_more d)) (parts_line (s.read ++ d.bytes) s.head s.raws d.line r'.chunk s.plain d.plain (whole_line d)) s.divides s.program
-      ∙ ap (with_lines p) (lines_at s.raws d.line (split r'.chunk).0 (last_lines failed (split r'.chunk).1))
+  pub part_line : (d : Reads r r' line' most b c (10 ∷ []) none) → r'.taken ≤ limit → (failed : Bool)
+      → part_of (s.read ++ d.bytes) failed ≡ Some (record { text = flat_map ended s.front; lines = map without_return s.raws ++ without_return d.line ∷ (map without_return (split r'.chunk).0 ++ last_lines failed (split r'.chunk).1) })
+  part_line d few failed =
+      part_at (s.read ++ d.bytes) failed s.front s.head (s.raws ++ d.line ∷ (split r'.chunk).0) (split r'.chunk).1 (omega (arith, size_more d)) (parts_line (s.read ++ d.bytes) s.head s.raws d.line r'.chunk s.plain d.plain (whole_line d)) s.divides
+      ∙ ap (λ l. let x : Part = record { text = flat_map ended s.front; lines = l } in Some x) (lines_at s.raws d.line (split r'.chunk).0 (last_lines failed (split r'.chunk).1))
 
   -- a whole line is in hand
   pub ready_line : (d : Reads r r' line' most b c (10 ∷ []) none) → r'.taken ≤ limit → Ready a c p device (without_return d.line)
@@ -179,9 +190,10 @@ module _ (a b c : Seen) (p : Program) (r r' : Reader) (device : DeviceState) (li
     read = s.read ++ d.bytes;
     more = map without_return (split r'.chunk).0 ++ (split r'.chunk).1 ∷ [];
     same = s.same;
-    session = session_line d few false;
+    session = session_at p _ _ _ (part_line d few false);
+    judged = λ stopped. judged_at p _ _ _ stopped (part_line d few false) s.program;
     few = omega (arith, size_more d);
-    complete = inl (rw (session_line d few true) (longer (map without_return s.raws) (without_return d.line) (map without_return (split r'.chunk).0 ++ [])));
+    complete = inl (rw (part_line d few true) (longer (map without_return s.raws) (without_return d.line) (map without_return (split r'.chunk).0 ++ [])));
     does = does_more a b c s.read d.bytes _ none s.does d.does;
     represents = s.represents;
     mid = s.mid;
@@ -194,9 +206,9 @@ module _ (a b c : Seen) (p : Program) (r r' : Reader) (device : DeviceState) (li
   whole_last d empty =
       read_more (flat_map ended (s.head ++ s.raws)) s.read r.chunk d.bytes d.line r'.chunk s.whole d.whole ∙ ap (λ l. flat_map ended (s.head ++ s.raws) ++ (d.line ++ l)) empty ∙ ap (λ l. flat_map ended (s.head ++ s.raws) ++ l) (append-nil d.line)
 
-  pub session_last : {f : Faults} → (d : Reads r r' line' most b c [] f) → r'.taken ≤ limit → r'.chunk ≡ [] → (failed : Bool) → session_of (s.read ++ d.bytes) failed ≡ with_lines p (map without_return s.raws ++ last_lines failed d.line)
-  session_last d few empty failed =
-      session_at (s.read ++ d.bytes) failed s.front s.head s.raws d.line p (omega (arith, size_more d)) (ap split (whole_last d empty) ∙ split_last (s.head ++ s.raws) d.line s.plain d.plain) s.divides s.program
+  pub part_last : {f : Faults} → (d : Reads r r' line' most b c [] f) → r'.taken ≤ limit → r'.chunk ≡ [] → (failed : Bool) → part_of (s.read ++ d.bytes) failed ≡ Some (record { text = flat_map ended s.front; lines = map without_return s.raws ++ last_lines failed d.line })
+  part_last d few empty failed =
+      part_at (s.read ++ d.bytes) failed s.front s.head s.raws d.line (omega (arith, size_more d)) (ap split (whole_last d empty) ∙ split_last (s.head ++ s.raws) d.line s.plain d.plain) s.divides
 
   -- the last line is in hand
   pub ready_end : (d : Reads r r' line' most b c [] none) → r'.taken ≤ limit → r'.chunk ≡ [] → IsAtEnd c → (q : Ready a c p device d.line) × (q.more ≡ [])
@@ -207,7 +219,8 @@ module _ (a b c : Seen) (p : Program) (r r' : Reader) (device : DeviceState) (li
       read = s.read ++ d.bytes;
       more = [];
       same = s.same;
-      session = session_last d few empty false;
+      session = session_at p _ _ _ (part_last d few empty false);
+      judged = λ stopped. judged_at p _ _ _ stopped (part_last d few empty false) s.program;
       few = omega (arith, size_more d);
       complete = inr end;
       does = does_more a b c s.read d.bytes _ none s.does d.does;

@@ -1,18 +1,21 @@
 -- What a run says and how it ends, as a function of the bytes read and of the outcomes.
 -- Read against: the program `device a; var x: int = 2; signal s = x + 3;` with get a s, turn a x = 5, get a s says 5, ok 1, 8;
 -- `device a;` with and without a separator behind it says nothing; both end with status 0.
-use Rattle.std.specs.Prelude.{ℕ, ◌-◌, List, [], ◌∷◌, ◌++◌, Bool, true, false, Option, Some, None, option_map, if◌then◌else◌, take, codes}
+use Rattle.std.specs.Prelude.{ℕ, ◌-◌, List, [], ◌∷◌, ◌++◌, Bool, true, false, Option, Some, None, if◌then◌else◌, take, codes}
 use Rattle.re_terms.specs.declared.program.Program.{Program}
 use Rattle.re_terms.specs.World.{World, Outcome, Fine, Memory, TakeTurn, Get, PlainAnswer, Refused, start_world, reply, world_after}
 use Rattle.re_terms.specs.declared.word.Word.TheVariants as word
 use Rattle.re_tool.specs.declared.command.Line.{Line}
 use Rattle.re_tool.specs.declared.command.Line.TheVariants as line
+use Rattle.re_tool.specs.declared.words.Job.{Job}
+use Rattle.re_tool.specs.declared.words.Job.TheVariants as job
 use Rattle.re_tool.specs.declared.status.Status.{Status}
 use Rattle.re_tool.specs.declared.status.Status.TheVariants as status
+use Rattle.re_print.specs.Canonical.{program_text}
 use Rattle.re_tool.specs.Commands.{line_of}
-use Rattle.re_tool.specs.Grammar.{program_of}
 use Rattle.re_tool.specs.Part.{Part, part_of, is_over}
 use Rattle.re_tool.specs.Texts.{reply_text}
+use Rattle.re_tool.specs.Verdict.{Verdict, Rejected, Accepted, refusal_text}
 
 -- what the definition of the answers doesn't decide
 pub record Outcomes : Type 0 where
@@ -69,46 +72,63 @@ pub record Session : Type 0 where
   pub program : Program
   pub lines : List (List ℕ)
 
--- the session, where the program part is a program
-abbrev pub session_in : Option Part → Option Session
-session_in None = None
-session_in (Some part) = option_map (λ p. let s : Session = record { program = p; lines = part.lines } in s) (program_of part.text)
+-- the session, where the program part is accepted
+abbrev pub session_in : Verdict → Option Part → Option Session
+session_in (Accepted p) (Some part) = Some (record { program = p; lines = part.lines })
+session_in v part = None
 
-abbrev pub session_of : List ℕ → Bool → Option Session
-session_of read failed = session_in (part_of read failed)
+-- `run` has a session, and `check` has none
+abbrev pub session_of : Job → Verdict → List ℕ → Bool → Option Session
+session_of job.Run v read failed = session_in v (part_of read failed)
+session_of job.Check v read failed = None
 
 -- how the reading of the input ended
 abbrev pub ending : List ℕ → Bool → Status
 ending read failed = if is_over read then status.TooLong else if failed then status.Input else status.Done
 
-abbrev pub status_with : Option Program → Status → Status
-status_with None s = status.Program
-status_with (Some p) s = s
+abbrev pub status_with : Verdict → Status → Status
+status_with (Rejected refusal) s = status.Program
+status_with v s = s
 
--- a program part that was read whole and is no program ends the run
-abbrev pub status_in : Option Part → Status → Status
-status_in None s = s
-status_in (Some part) s = status_with (program_of part.text) s
+-- how the job ends behind an accepted program part: `check` reads no further
+abbrev pub behind_part : Job → Status → Status
+behind_part job.Run s = s
+behind_part job.Check s = status.Done
 
-abbrev pub status_of : List ℕ → Bool → Status
-status_of read failed = status_in (part_of read failed) (ending read failed)
+-- a program part that was read whole and is refused ends the run
+abbrev pub status_in : Job → Verdict → Option Part → Status → Status
+status_in j v None s = s
+status_in j v (Some part) s = status_with v (behind_part j s)
 
--- what is said of a status, last
-abbrev pub status_line : Status → List ℕ
-status_line status.Words = codes "rescala: bad words" ++ 10 ∷ []
-status_line status.Program = codes "rescala: program: not built" ++ 10 ∷ []
-status_line status.Input = codes "rescala: input fault" ++ 10 ∷ []
-status_line status.Memory = codes "rescala: no memory" ++ 10 ∷ []
-status_line status.TooLong = codes "rescala: input too long" ++ 10 ∷ []
-status_line s = []
+abbrev pub status_of : Job → Verdict → List ℕ → Bool → Status
+status_of j v read failed = status_in j v (part_of read failed) (ending read failed)
 
-abbrev pub close : Status → List ℕ → List ℕ × Status
-close s text = (text ++ status_line s, s)
+-- what is said of a status, last; a refused program part has the text of its refusal in it
+abbrev pub status_line : List ℕ → Status → List ℕ
+status_line refusal status.Words = codes "rescala: bad words" ++ 10 ∷ []
+status_line refusal status.Program = codes "rescala: program: " ++ (refusal ++ 10 ∷ [])
+status_line refusal status.Input = codes "rescala: input fault" ++ 10 ∷ []
+status_line refusal status.Memory = codes "rescala: no memory" ++ 10 ∷ []
+status_line refusal status.TooLong = codes "rescala: input too long" ++ 10 ∷ []
+status_line refusal s = []
+
+abbrev pub close : Verdict → Status → List ℕ → List ℕ × Status
+close v s text = (text ++ status_line (refusal_text v) s, s)
 
 -- what a session says
 abbrev pub session_text : Option Session → List Outcome → List ℕ
 session_text None os = []
 session_text (Some s) os = texts s.program (start_world s.program) s.lines os
+
+-- what `check` says of an accepted program part: its canonical text
+abbrev pub checked_text : Verdict → Option Part → List ℕ
+checked_text (Accepted p) (Some part) = program_text p
+checked_text v part = []
+
+-- what a job says where it isn't cut short
+abbrev pub job_text : Job → Verdict → List ℕ → List Outcome → Bool → List ℕ
+job_text job.Run v read os failed = session_text (session_of job.Run v read failed) os
+job_text job.Check v read os failed = checked_text v (part_of read failed)
 
 -- a session of its first n lines
 abbrev pub first_lines : ℕ → Option Session → Option Session
@@ -124,13 +144,13 @@ abbrev pub done_by : Option (ℕ × Bool) → Option Session → Option Session
 done_by None s = s
 done_by (Some (n, said)) s = first_lines n s
 
-abbrev pub done : List ℕ → Outcomes → Option Session
-done read o = done_by o.stopped (session_of read o.input_failed)
+abbrev pub done : Job → Verdict → List ℕ → Outcomes → Option Session
+done j v read o = done_by o.stopped (session_of j v read o.input_failed)
 
-abbrev pub answers_by : Option (ℕ × Bool) → List ℕ → List Outcome → Bool → List ℕ × Status
-answers_by None read os failed = close (status_of read failed) (session_text (session_of read failed) os)
-answers_by (Some (n, said)) read os failed = close status.Memory (session_text (first_lines (said_lines n said) (session_of read failed)) os)
+abbrev pub answers_by : Option (ℕ × Bool) → Job → Verdict → List ℕ → List Outcome → Bool → List ℕ × Status
+answers_by None j v read os failed = close v (status_of j v read failed) (job_text j v read os failed)
+answers_by (Some (n, said)) j v read os failed = close v status.Memory (session_text (first_lines (said_lines n said) (session_of j v read failed)) os)
 
--- the output and the status of `run`
-abbrev pub answers : List ℕ → Outcomes → List ℕ × Status
-answers read o = answers_by o.stopped read o.commands o.input_failed
+-- the output and the status of a job, where the program part has this verdict
+abbrev pub answers : Job → Verdict → List ℕ → Outcomes → List ℕ × Status
+answers j v read o = answers_by o.stopped j v read o.commands o.input_failed

@@ -1,14 +1,17 @@
 -- When each status comes, in what is seen outside.
-use Rattle.std.specs.Prelude.{ℕ, ◌≡◌, ◌<◌, ◌≤◌, ◌+◌, ◌++◌, ◌⊎◌, length, take, List, Bool, true, false, Some, None}
+use Rattle.std.specs.Prelude.{ℕ, ◌≡◌, ◌<◌, ◌≤◌, ◌+◌, ◌++◌, ◌⊎◌, length, take, List, Bool, true, false, Some}
 use Rattle.std.specs.List.{flat_map}
 use Rattle.re_outside.specs.Outside.{Seen, Counts, IsAtEnd}
+use Rattle.re_tool.specs.declared.words.Job.{Job}
+use Rattle.re_tool.specs.declared.words.Job.TheVariants as job
+use Rattle.re_tool.specs.declared.faults.Refusal.{Refusal}
 use Rattle.re_tool.specs.declared.status.Status.{Status}
 use Rattle.re_tool.specs.declared.status.Status.TheVariants as status
-use Rattle.re_tool.specs.Grammar.{program_of}
 use Rattle.re_tool.specs.Lines.{split, ended}
 use Rattle.re_tool.specs.Part.{Part, divided, part_of}
 use Rattle.re_tool.specs.Reads.{limit}
 use Rattle.re_tool.specs.Session.{HasSeparator, is_output, one_if}
+use Rattle.re_tool.specs.Verdict.{HasVerdict, Rejected}
 
 -- it is this status, or want of memory or of output came in its place
 abbrev pub IsUnlessEnded : Status → Status → Type 0
@@ -22,9 +25,20 @@ InputCause old new s = s ≡ status.Input → Counts 1 old.input_faults new.inpu
 abbrev pub OutputCause : Seen → Seen → Status → Type 0
 OutputCause old new s = Counts (one_if (is_output s)) old.output_faults new.output_faults
 
--- status 0 comes only where the input was read to its end
-abbrev pub EndCause : Seen → Seen → Status → Type 0
-EndCause old new s = s ≡ status.Done → IsAtEnd new
+-- the program part was read to the separator or to the end of the input
+pub record IsPartRead (old new : Seen) : Type 0 where
+  pub read : List ℕ
+  pub left : old.told ≡ true → old.left ≡ read ++ new.left
+  pub far : HasSeparator read ⊎ IsAtEnd new
+
+-- the job has read all that it reads: `run` the input to its end, `check` the program part
+abbrev pub IsRead : Job → Seen → Seen → Type 0
+IsRead job.Run old new = IsAtEnd new
+IsRead job.Check old new = IsPartRead old new
+
+-- status 0 comes only where the job has read all that it reads
+abbrev pub EndCause : Job → Seen → Seen → Status → Type 0
+EndCause j old new s = s ≡ status.Done → IsRead j old new
 
 -- 16,777,216 bytes were taken and another came
 abbrev pub TooMuch : Seen → Seen → Type 0
@@ -35,22 +49,23 @@ pub record TooLongCause (old new : Seen) (s : Status) : Type 0 where
   pub only : old.told ≡ true → s ≡ status.TooLong → TooMuch old new
   pub always : old.told ≡ true → TooMuch old new → IsUnlessEnded status.TooLong s
 
--- The program part was read whole, and is no program.
-pub record IsRefusedPart (old new : Seen) : Type 0 where
+-- The program part was read whole, and is refused.
+pub record IsRefusedPart (j : Job) (old new : Seen) : Type 0 where
   pub read : List ℕ
   pub left : old.left ≡ read ++ new.left
   pub part : Part
   pub is_cut : Bool
   pub is_part : part_of read is_cut ≡ Some part
-  pub none : program_of part.text ≡ None
+  pub why : Refusal
+  pub refused : HasVerdict j part.text (Rejected why)
   pub far : HasSeparator read ⊎ IsAtEnd new
 
--- Status 3 comes exactly where the program part is no program.
-pub record ProgramCause (old new : Seen) (s : Status) : Type 0 where
-  pub only : old.told ≡ true → s ≡ status.Program → IsRefusedPart old new
-  -- where the separator was read and the lines before it are no program
-  pub always : (read : List ℕ) (front back : List (List ℕ)) → old.told ≡ true → old.left ≡ read ++ new.left → divided (split (take limit read)).0 ≡ Some (front, back) → program_of (flat_map ended front) ≡ None
+-- Status 3 comes exactly where the program part is refused.
+pub record ProgramCause (j : Job) (old new : Seen) (s : Status) : Type 0 where
+  pub only : old.told ≡ true → s ≡ status.Program → IsRefusedPart j old new
+  -- where the separator was read and the lines before it are refused
+  pub always : (read : List ℕ) (why : Refusal) (front back : List (List ℕ)) → old.told ≡ true → old.left ≡ read ++ new.left → divided (split (take limit read)).0 ≡ Some (front, back) → HasVerdict j (flat_map ended front) (Rejected why)
       → IsUnlessEnded status.Program s
-  -- where the input was the program part and is no program; a failed `take` may come first
-  pub at_end : (read : List ℕ) (part : Part) → old.told ≡ true → old.left ≡ read ++ new.left → length read ≤ limit → part_of read false ≡ Some part → program_of part.text ≡ None
+  -- where the input was the program part and is refused; a failed `take` may come first
+  pub at_end : (read : List ℕ) (why : Refusal) (part : Part) → old.told ≡ true → old.left ≡ read ++ new.left → length read ≤ limit → part_of read false ≡ Some part → HasVerdict j part.text (Rejected why)
       → IsUnlessEnded status.Program s ⊎ (s ≡ status.Input)

@@ -6,7 +6,8 @@ use Rattle.re_terms.specs.declared.program.Program.{Program}
 use Rattle.re_tool.specs.declared.command.Line.{Line}
 use Rattle.re_tool.specs.declared.command.Line.TheVariants.{Blank, Bad, Turn, Get}
 use Rattle.re_tool.specs.Tokens.{Mark, Name, marks_of}
-use Rattle.re_tool.specs.Grammar.{◌>>=◌, only_if, is_sign, equals, is_device, is_var, is_value, placed, behind, named, is_none_left, literal_of}
+use Rattle.re_terms.specs.Programs.{is_device_body}
+use Rattle.re_tool.specs.Patterns.{◌>>=◌, only_if, is_sign, equals, is_var_body, is_valued_body, placed, behind, named, is_none_left, literal_of}
 
 abbrev pub is_name : List ℕ → Mark → Bool
 is_name bytes (Name other) = bytes_eq other bytes
@@ -16,9 +17,9 @@ is_name bytes mark = false
 abbrev pub turn_of : List Decl → List Mark → Option Line
 turn_of decls marks = do
   device ← named marks
-  only ← placed is_device decls device.0
+  only ← placed is_device_body decls device.0
   name ← named device.1
-  id ← placed is_var decls name.0
+  id ← placed is_var_body decls name.0
   literal ← behind (is_sign equals) name.1
   number ← literal_of literal
   Some (Turn id number)
@@ -27,9 +28,9 @@ turn_of decls marks = do
 abbrev pub get_of : List Decl → List Mark → Option Line
 get_of decls marks = do
   device ← named marks
-  only ← placed is_device decls device.0
+  only ← placed is_device_body decls device.0
   name ← named device.1
-  id ← placed is_value decls name.0
+  id ← placed is_valued_body decls name.0
   only_if (is_none_left name.1) (Get id)
 
 -- the command that these marks are

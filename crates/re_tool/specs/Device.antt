@@ -1,5 +1,5 @@
 -- The state of the one device, as the code keeps it.
-use Rattle.std.specs.Prelude.{ℕ, ◌≡◌, ◌<◌, Bool, true, false, List, [], ◌∷◌, length, slice_get, slice_index, slice_index_or, pos, Option, None, Some, count_by}
+use Rattle.std.specs.Prelude.{ℕ, ◌≡◌, ◌<◌, Bool, false, List, [], ◌∷◌, length, slice_get, slice_index, slice_index_or, pos, Option, None, Some, count_by}
 use Rattle.re_terms.specs.declared.word.Word.{Word}
 use Rattle.re_terms.specs.declared.word.Word.TheVariants as word
 use Rattle.re_terms.specs.declared.program.Body.{Body}
@@ -9,6 +9,7 @@ use Rattle.re_terms.specs.declared.program.Program.{Program}
 use Rattle.re_terms.specs.Meaning.{meaning}
 use Rattle.re_terms.specs.Signal.{is_cell, cell_place, words_environment}
 use Rattle.re_terms.specs.World.{World, PlainCommand, TakeTurn, Get, PlainAnswer, Entered, Value, Refused, Outcome, world_state, last_number, reply, world_after}
+use Rattle.re_tool.specs.Patterns.{is_var_body, is_valued_body}
 use Rattle.re_tool.specs.declared.device.Command.{Command}
 use Rattle.re_tool.specs.declared.device.Command.TheVariants as command
 use Rattle.re_tool.specs.declared.device.Answer.{Answer}
@@ -40,15 +41,6 @@ pub record Fits (p : Program) (device : DeviceState) : Type 0 where
 pub record Represents (p : Program) (w : World) (device : DeviceState) : Type 0 where
   pub words : device.words ≡ (world_state p w).words
   pub number : device.number ≡ last_number w
-
-abbrev pub is_var_body : Body → Bool
-is_var_body (body.Var kind start region) = true
-is_var_body b = false
-
-abbrev pub is_valued_body : Body → Bool
-is_valued_body (body.Var kind start region) = true
-is_valued_body (body.Signal kind expr) = true
-is_valued_body b = false
 
 abbrev pub is_var : Option Decl → Bool
 is_var None = false

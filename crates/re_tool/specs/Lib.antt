@@ -6,12 +6,12 @@ pub mod Clipped
 pub mod Commands
 pub mod Device
 pub mod Faults
-pub mod Grammar
+pub mod Patterns
 pub mod Lines
 pub mod Names
+pub mod Opening
 pub mod Part
 pub mod PartReading
-pub mod Parts
 pub mod Reads
 pub mod Scanning
 pub mod Serving
@@ -19,6 +19,6 @@ pub mod Session
 pub mod Settings
 pub mod Status
 pub mod Texts
-pub mod Table
 pub mod Tokens
+pub mod Verdict
 pub mod Words

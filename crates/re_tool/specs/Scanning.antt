@@ -18,3 +18,9 @@ plain_marks marks = map plain_mark marks
 -- a token and the text behind it
 abbrev pub plain_first : SourceMark × Bor (List ℕ) → Mark × List ℕ
 plain_first p = (plain_mark p.0, p.1.now)
+
+abbrev pub plain_rest : Bor (List SourceMark) → List Mark
+plain_rest rest = plain_marks rest.now
+
+abbrev pub plain_named : Bor (List ℕ) × Bor (List SourceMark) → List ℕ × List Mark
+plain_named p = (p.0.now, plain_marks p.1.now)

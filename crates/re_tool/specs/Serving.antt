@@ -5,6 +5,7 @@ use Rattle.re_terms.specs.declared.program.Program.{Program}
 use Rattle.re_terms.specs.World.{World, Outcome, start_world}
 use Rattle.re_outside.specs.Outside.{Seen, Does, Breaks, none}
 use Rattle.re_tool.specs.declared.device.Answer.{Answer}
+use Rattle.re_tool.specs.declared.words.Job.TheVariants as job
 use Rattle.re_tool.specs.declared.reader.Reader.{Reader}
 use Rattle.re_tool.specs.declared.running.Ended.{Ended}
 use Rattle.re_tool.specs.declared.running.Ended.TheVariants as ended_by
@@ -12,12 +13,12 @@ use Rattle.re_tool.specs.Acts.{ActOn}
 use Rattle.re_tool.specs.Answers.{line_text, line_after}
 use Rattle.re_tool.specs.Commands.{line_of}
 use Rattle.re_tool.specs.Device.{DeviceState, Represents}
-use Rattle.re_tool.specs.Grammar.{program_of}
 use Rattle.re_tool.specs.Lines.{ended, ArePlain}
 use Rattle.re_tool.specs.Part.{divided}
 use Rattle.re_tool.specs.Reads.{limit}
 use Rattle.re_tool.specs.Texts.{answer_text}
 use Rattle.re_tool.specs.Tokens.{skipped}
+use Rattle.re_tool.specs.Verdict.{Decides, Accepted}
 
 -- a line that has no answer: one of at most 1,024 bytes that is all blanks and comments
 abbrev pub is_blank_line : List ℕ → Bool
@@ -59,7 +60,7 @@ pub record Starts (a b : Seen) (p : Program) (r : Reader) (device : DeviceState)
   pub head : List (List ℕ)
   pub plain : ArePlain head
   pub divides : (lines : List (List ℕ)) → divided (head ++ lines) ≡ Some (front, lines)
-  pub program : program_of (flat_map ended front) ≡ Some p
+  pub program : Decides job.Run (flat_map ended front) (Accepted p)
   pub whole : read ≡ flat_map ended head ++ r.chunk
   pub taken : r.taken ≡ length read
   pub few : r.taken ≤ limit

@@ -1,13 +1,16 @@
 -- What a whole run does.
 use Rattle.std.specs.Prelude.{ℕ, ◌≡◌, ◌≤◌, ◌+◌, ◌++◌, ◌⊎◌, length, List, [], Bool, true, false, Option, Some, None, IsSome}
 use Rattle.re_outside.specs.Outside.{Seen, Does, Breaks, IsAtEnd, Faults, none}
+use Rattle.re_tool.specs.declared.words.Job.{Job}
+use Rattle.re_tool.specs.declared.words.Job.TheVariants as job
 use Rattle.re_tool.specs.declared.status.Status.{Status}
 use Rattle.re_tool.specs.declared.status.Status.TheVariants as status
 use Rattle.re_tool.specs.Acts.{OrderedIn}
 use Rattle.re_tool.specs.Lines.{split}
-use Rattle.re_tool.specs.Part.{divided}
+use Rattle.re_tool.specs.Part.{Part, divided, part_of}
 use Rattle.re_tool.specs.Reads.{limit}
-use Rattle.re_tool.specs.Answers.{Outcomes, Session, session_of, answers, done, status_line}
+use Rattle.re_tool.specs.Answers.{Outcomes, Session, answers, done, status_line}
+use Rattle.re_tool.specs.Verdict.{Verdict, IsJudged}
 
 abbrev pub is_output : Status → Bool
 is_output status.Output = true
@@ -39,41 +42,56 @@ abbrev pub lines_of : Option Session → List (List ℕ)
 lines_of None = []
 lines_of (Some s) = s.lines
 
+abbrev pub part_lines : Option Part → List (List ℕ)
+part_lines None = []
+part_lines (Some part) = part.lines
+
 -- no line was done before it was complete: there are as many whole lines behind the separator
-abbrev pub AreComplete : List ℕ → Outcomes → Type 0
-AreComplete read o = length (lines_of (done read o)) ≤ length (lines_of (session_of read true))
+abbrev pub AreComplete : Job → Verdict → List ℕ → Outcomes → Type 0
+AreComplete j v read o = length (lines_of (done j v read o)) ≤ length (part_lines (part_of read true))
 
--- how far the input was read: to its end where the status is 0, to the separator or the end and no further than
--- the limit where it is 3,
+-- the separator or the end was read, and no more than the limit
+abbrev pub ReadsPart : List ℕ → Seen → Type 0
+ReadsPart read new = (length read ≤ limit) × (HasSeparator read ⊎ IsAtEnd new)
+
+-- where the status is 0 the input was read to its end, and by `check` to the separator or the end
+abbrev pub ReadsWhole : Job → List ℕ → Seen → Type 0
+ReadsWhole job.Run read new = IsAtEnd new
+ReadsWhole job.Check read new = ReadsPart read new
+
+-- how far the input was read: as the job says where the status is 0, to the separator or the end where it is 3,
 -- and past each line that was done
-abbrev pub ReadFar : Status → List ℕ → Outcomes → Seen → Type 0
-ReadFar status.Done read o new = IsAtEnd new
-ReadFar status.Program read o new = (length read ≤ limit) × (HasSeparator read ⊎ IsAtEnd new)
-ReadFar status.Memory read o new = AreComplete read o ⊎ IsAtEnd new
-ReadFar status.Output read o new = AreComplete read o ⊎ IsAtEnd new
-ReadFar s read o new = Unit {0}
+abbrev pub ReadFar : Job → Status → Verdict → List ℕ → Outcomes → Seen → Type 0
+ReadFar j status.Done v read o new = ReadsWhole j read new
+ReadFar j status.Program v read o new = ReadsPart read new
+ReadFar j status.Memory v read o new = AreComplete j v read o ⊎ IsAtEnd new
+ReadFar j status.Output v read o new = AreComplete j v read o ⊎ IsAtEnd new
+ReadFar j s v read o new = Unit {0}
 
-pub record Runs (old new : Seen) (s : Status) : Type 0 where
+pub record Runs (j : Job) (old new : Seen) (s : Status) : Type 0 where
   -- the bytes that were taken, at most one over the limit
   pub read : List ℕ
   pub few : length read ≤ limit + 1
   pub outcomes : Outcomes
+  -- what the program part is
+  pub verdict : Verdict
+  pub judged : IsJudged j verdict (part_of read outcomes.input_failed) outcomes.stopped
   -- the text that was said
   pub text : List ℕ
   -- the input fault and the output fault are the outcomes', and no others came
   pub does : Does old new read text (faults_of outcomes.input_failed (is_output s))
-  pub tells : Tells (answers read outcomes) text s
+  pub tells : Tells (answers j verdict read outcomes) text s
   -- the answers stand whole and in order behind their commands' steps, all but perhaps the last
   pub unanswered : List (List ℕ)
   pub whole : Unanswered s unanswered
-  pub ordered : OrderedIn old new (done read outcomes) outcomes.commands unanswered
-  pub far : ReadFar s read outcomes new
+  pub ordered : OrderedIn old new (done j verdict read outcomes) outcomes.commands unanswered
+  pub far : ReadFar j s verdict read outcomes new
 
 -- The last line is said, or a front of it.
-abbrev pub Finishes : Seen → Seen → Status → Status → Type 0
-Finishes old new s status.Output = Breaks old new (status_line s) none
-Finishes old new s r = (r ≡ s) × Does old new [] (status_line s) none
+abbrev pub Finishes : Seen → Seen → List ℕ → Status → Status → Type 0
+Finishes old new line s status.Output = Breaks old new line none
+Finishes old new line s r = (r ≡ s) × Does old new [] line none
 
 -- The words were refused, or memory ran out for them.
 abbrev pub Refuses : Seen → Seen → Status → Type 0
-Refuses old new s = Finishes old new status.Words s ⊎ Finishes old new status.Memory s
+Refuses old new s = Finishes old new (status_line [] status.Words) status.Words s ⊎ Finishes old new (status_line [] status.Memory) status.Memory s

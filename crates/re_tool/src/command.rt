@@ -1,7 +1,7 @@
 //! The lines of a session.
 ghost use Rattle.std.specs.Prelude.{◌≡◌, ◌≤◌, length, IfOk};
 ghost use Rattle.re_tool.specs.Scanning.{plain_mark, plain_marks};
-ghost use Rattle.re_tool.specs.Grammar.{names_in, names_of};
+ghost use Rattle.re_terms.specs.Programs.{names_of};
 ghost use Rattle.re_tool.specs.Built.{IsBuilt};
 ghost use Rattle.re_tool.specs.Commands.{is_name, turn_of, get_of, command_of, line_of};
 
@@ -40,7 +40,7 @@ fn is_name(mark: Mark<'_>, name: &[u8]) -> bool
 
 /// Reads what stands behind `turn`.
 fn read_turn(marks: &[Mark<'_>], decls: &Seq<Decl>, names: &Names<'_>) -> Option<Line>
-    requires names { names.now ≡ names_in decls.now.items }
+    requires names { names.now ≡ names_of decls.now.items }
     requires few { length decls.now.items ≤ 512 }
     ensures { result ≡ turn_of decls.now.items (plain_marks marks.now) }
 {
@@ -57,7 +57,7 @@ fn read_turn(marks: &[Mark<'_>], decls: &Seq<Decl>, names: &Names<'_>) -> Option
 
 /// Reads what stands behind `get`.
 fn read_get(marks: &[Mark<'_>], decls: &Seq<Decl>, names: &Names<'_>) -> Option<Line>
-    requires names { names.now ≡ names_in decls.now.items }
+    requires names { names.now ≡ names_of decls.now.items }
     requires few { length decls.now.items ≤ 512 }
     ensures { result ≡ get_of decls.now.items (plain_marks marks.now) }
 {
@@ -74,7 +74,7 @@ fn read_get(marks: &[Mark<'_>], decls: &Seq<Decl>, names: &Names<'_>) -> Option<
 
 /// Reads a command.
 fn read_command(marks: &[Mark<'_>], decls: &Seq<Decl>, names: &Names<'_>) -> Option<Line>
-    requires names { names.now ≡ names_in decls.now.items }
+    requires names { names.now ≡ names_of decls.now.items }
     requires few { length decls.now.items ≤ 512 }
     ensures { result ≡ command_of decls.now.items (plain_marks marks.now) }
 {
@@ -100,7 +100,7 @@ pub fn read_line(
     names: &Names<'_>,
 ) -> Result<Line, AllocError>
     requires built { IsBuilt p.now }
-    requires names { names.now ≡ names_of p.now }
+    requires names { names.now ≡ names_of p.now.decls.items }
     ensures { IfOk result (λ l. l ≡ line_of p.now line.now) }
 {
     if line.len() > MAX_LINE {
@@ -117,12 +117,17 @@ pub fn read_line(
 mod tests {
     use super::*;
     use crate::reading::read_program;
+    use crate::words::Job;
     use std::test::Fail;
 
     #[test]
     fn reads_lines(rt: HostRuntime) -> Result<(), Fail> {
         let alloc = rt.alloc();
-        let p = read_program(alloc, b"device a; var x: int = 0; signal s = x + 1;")?;
+        let p = read_program(
+            alloc,
+            Job::Run,
+            b"device a; var x: int = 0; signal s = x + 1;",
+        )?;
         let names = Names::of(alloc, &p)?;
         let cases: [(&[u8], Line); 16] = [
             (b"", Line::Blank),

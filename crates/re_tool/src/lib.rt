@@ -2,6 +2,7 @@
 #![tactic(auto)]
 
 mod answer;
+mod built;
 mod chunk;
 mod command;
 mod device;
@@ -18,7 +19,6 @@ mod reader;
 mod reading;
 mod running;
 mod status;
-mod sums;
 #[cfg(test)]
 mod tests;
 mod tokens;

@@ -1,12 +1,13 @@
 //! Declarations by their names.
 ghost use Rattle.std.specs.Prelude.{◌≡◌, ◌<◌, length, IfSome};
-ghost use Rattle.re_tool.specs.Grammar.{is_device, is_var, is_value, names_in, placed};
+ghost use Rattle.re_terms.specs.Programs.{names_of, is_device_body};
+ghost use Rattle.re_tool.specs.Patterns.{is_var_body, is_valued_body, placed};
 
 use crate::names::Names;
 use re_terms::{Body, Decl, Seq};
 
 pub fn is_device(body: &Body) -> bool
-    ensures { result ≡ is_device body.now }
+    ensures { result ≡ is_device_body body.now }
 {
     match body {
         Body::Device => true,
@@ -15,7 +16,7 @@ pub fn is_device(body: &Body) -> bool
 }
 
 pub fn is_var(body: &Body) -> bool
-    ensures { result ≡ is_var body.now }
+    ensures { result ≡ is_var_body body.now }
 {
     match body {
         Body::Var { .. } => true,
@@ -25,7 +26,7 @@ pub fn is_var(body: &Body) -> bool
 
 /// Whether it is a var or a signal.
 pub fn is_value(body: &Body) -> bool
-    ensures { result ≡ is_value body.now }
+    ensures { result ≡ is_valued_body body.now }
 {
     match body {
         Body::Var { .. } | Body::Signal { .. } => true,
@@ -35,8 +36,8 @@ pub fn is_value(body: &Body) -> bool
 
 /// The place of the device, where this is its name.
 pub fn device_place(decls: &Seq<Decl>, names: &Names<'_>, name: &[u8]) -> Option<usize>
-    requires { names.now ≡ names_in decls.now.items }
-    ensures placed { result ≡ placed is_device decls.now.items name.now }
+    requires { names.now ≡ names_of decls.now.items }
+    ensures placed { result ≡ placed is_device_body decls.now.items name.now }
     ensures within { IfSome result (λ id. id < length decls.now.items) }
 {
     let id = names.place(name)?;
@@ -50,8 +51,8 @@ pub fn device_place(decls: &Seq<Decl>, names: &Names<'_>, name: &[u8]) -> Option
 
 /// The place of the var with this name.
 pub fn var_place(decls: &Seq<Decl>, names: &Names<'_>, name: &[u8]) -> Option<usize>
-    requires { names.now ≡ names_in decls.now.items }
-    ensures placed { result ≡ placed is_var decls.now.items name.now }
+    requires { names.now ≡ names_of decls.now.items }
+    ensures placed { result ≡ placed is_var_body decls.now.items name.now }
     ensures within { IfSome result (λ id. id < length decls.now.items) }
 {
     let id = names.place(name)?;
@@ -61,8 +62,8 @@ pub fn var_place(decls: &Seq<Decl>, names: &Names<'_>, name: &[u8]) -> Option<us
 
 /// The place of the var or the signal with this name.
 pub fn value_place(decls: &Seq<Decl>, names: &Names<'_>, name: &[u8]) -> Option<usize>
-    requires { names.now ≡ names_in decls.now.items }
-    ensures placed { result ≡ placed is_value decls.now.items name.now }
+    requires { names.now ≡ names_of decls.now.items }
+    ensures placed { result ≡ placed is_valued_body decls.now.items name.now }
     ensures within { IfSome result (λ id. id < length decls.now.items) }
 {
     let id = names.place(name)?;

@@ -1,6 +1,7 @@
 //! The names of declarations.
 ghost use Rattle.std.specs.Prelude.{◌≡◌, ◌++◌, ◌∷◌, [], true, not, is_some, IfOk, IfSome, ◌<◌, length, if◌then◌else◌};
-ghost use Rattle.re_tool.specs.Grammar.{place_of, names_of};
+ghost use Rattle.re_terms.specs.Programs.{names_of};
+ghost use Rattle.re_tool.specs.Patterns.{place_of};
 ghost use Rattle.re_tool.specs.Built.{are_distinct};
 
 use indexmap::IndexSet;
@@ -34,8 +35,8 @@ impl<'a> Names<'a> {
 
     /// The names of a program. The one refusal is want of memory.
     pub fn of(alloc: Global, p: &'a Program) -> Result<Names<'a>, AllocError>
-        requires { are_distinct [] (names_of p.now) ≡ true }
-        ensures { IfOk result (λ names. names ≡ names_of p.now) }
+        requires { are_distinct [] (names_of p.now.decls.items) ≡ true }
+        ensures { IfOk result (λ names. names ≡ names_of p.now.decls.items) }
     {
         let mut names = Names::new(alloc);
         for decl in p.decls.as_slice() {

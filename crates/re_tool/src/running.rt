@@ -1,22 +1,24 @@
 //! A whole run over a stream.
-ghost use Rattle.std.specs.Prelude.{◌≡◌, ◌≢◌, ◌≤◌, ◌<◌, ◌+◌, ◌-◌, ◌^◌, length, Some};
-ghost use Rattle.re_outside.specs.Outside.{Seen};
+ghost use Rattle.std.specs.Prelude.{◌≡◌, ◌≢◌, ◌≤◌, ◌<◌, ◌+◌, ◌-◌, ◌^◌, ◌⊎◌, [], length, IfOk, OnOk, OnErr, Err};
+ghost use Rattle.re_outside.specs.Outside.{Seen, Does, Breaks, none};
 ghost use Rattle.re_tool.specs.Answers.{status_line};
 ghost use Rattle.re_tool.specs.Built.{IsBuilt};
 ghost use Rattle.re_tool.specs.Causes.{EndCause, ProgramCause, InputCause, OutputCause, TooLongCause};
 ghost use Rattle.re_tool.specs.Commands.{line_of};
 ghost use Rattle.re_tool.specs.Device.{Fits};
 ghost use Rattle.re_tool.specs.Clipped.{Clipped};
-ghost use Rattle.re_tool.specs.Grammar.{names_of, program_of};
+ghost use Rattle.re_terms.specs.Programs.{names_of};
 ghost use Rattle.re_tool.specs.PartReading.{PartIs};
+ghost use Rattle.re_tool.specs.Opening.{Opens};
 ghost use Rattle.re_tool.specs.Reads.{limit};
 ghost use Rattle.re_tool.specs.Serving.{AnswersLine, TurnGives, Starts, said_of, is_blank_line};
 ghost use Rattle.re_tool.specs.Session.{Finishes, Runs};
+ghost use Rattle.re_tool.specs.Verdict.{Decides, Accepted, refusal_words};
 
 use crate::answer::print_answer;
 use crate::command::{Line, read_line};
 use crate::device::{Answer, Command, Device};
-use crate::faults::ProgramFault;
+use crate::faults::{ProgramFault, Refusal, refusal_text};
 use crate::line::ClippedLine;
 use crate::names::Names;
 use crate::part::{Stop, read_part, trim_return};
@@ -25,9 +27,10 @@ use crate::reading::read_program;
 use crate::status::Status;
 use crate::tokens::is_blank_text;
 use crate::words::Job;
-use re_outside::{Outside, say_all};
+use re_outside::{Failed, Outside, say_all};
+use re_print::print_program;
 use re_terms::Program;
-use std::alloc::Global;
+use std::alloc::{AllocError, Global};
 
 /// How many bytes a line has at most, without its end.
 const MAX_LINE: usize = 1024;
@@ -68,7 +71,7 @@ fn answer_line(
     line: &[u8],
 ) -> Option<Answer>
     requires built { IsBuilt program.now }
-    requires names { names.now ≡ names_of program.now }
+    requires names { names.now ≡ names_of program.now.decls.items }
     requires fits { Fits program.now device.old }
     requires number { device.old.number < 2 ^ 64 - 1 }
     ensures fits { Fits program.now device.new }
@@ -99,7 +102,7 @@ fn turn<O: Outside>(
     out: &mut O,
 ) -> Result<(), Ended>
     requires built { IsBuilt program.now }
-    requires names { names.now ≡ names_of program.now }
+    requires names { names.now ≡ names_of program.now.decls.items }
     requires fits { Fits program.now device.old }
     requires number { device.old.number < 2 ^ 64 - 1 }
     ensures fits { Fits program.now device.new }
@@ -118,13 +121,13 @@ fn turn<O: Outside>(
     }
 }
 
-/// What is said last of a status.
+/// What is said last of a status but that of a refused program.
 fn last_line(status: Status) -> &'static [u8]
-    ensures { result.now ≡ status_line status }
+    requires { status ≢ Status.Program }
+    ensures { result.now ≡ status_line [] status }
 {
     match status {
         Status::Words => b"rescala: bad words\n",
-        Status::Program => b"rescala: program: not built\n",
         Status::Input => b"rescala: input fault\n",
         Status::Memory => b"rescala: no memory\n",
         Status::TooLong => b"rescala: input too long\n",
@@ -132,15 +135,40 @@ fn last_line(status: Status) -> &'static [u8]
     }
 }
 
-/// Says the last line.
+/// Says the last line of a status but that of a refused program.
 pub fn finish<O: Outside>(out: &mut O, status: Status) -> Status
-    requires { status ≢ Status.Output }
-    ensures { Finishes (O.seen out.old) (O.seen out.new) status result }
+    requires said { status ≢ Status.Output }
+    requires accepted { status ≢ Status.Program }
+    ensures { Finishes (O.seen out.old) (O.seen out.new) (status_line [] status) status result }
 {
     if say_all(out, last_line(status)).is_err() {
         return Status::Output;
     }
     status
+}
+
+/// The line that says why a program part is refused. The one refusal of its own is want of memory.
+fn refusal_line(alloc: Global, why: Refusal) -> Result<Vec<u8>, AllocError>
+    ensures { IfOk result (λ line. line.items ≡ status_line (refusal_words why) Status.Program) }
+{
+    let text = refusal_text(alloc, why)?;
+    let mut line = b"rescala: program: ".to_vec(alloc)?;
+    line.extend_from_slice(&text)?;
+    line.push(b'\n')?;
+    Ok(line)
+}
+
+/// Says why a program part is refused, or that memory ran out for it.
+fn refuse<O: Outside>(alloc: Global, out: &mut O, why: Refusal) -> Status
+    ensures { Finishes (O.seen out.old) (O.seen out.new) (status_line (refusal_words why) Status.Program) Status.Program result ⊎ Finishes (O.seen out.old) (O.seen out.new) (status_line [] Status.Memory) Status.Memory result }
+{
+    let Ok(line) = refusal_line(alloc, why) else {
+        return finish(out, Status::Memory);
+    };
+    if say_all(out, &line).is_err() {
+        return Status::Output;
+    }
+    Status::Program
 }
 
 /// Does the lines behind the program part, and ends the run.
@@ -153,11 +181,11 @@ fn serve<O: Outside>(
     out: &mut O,
 ) -> Status
     requires built { IsBuilt program.now }
-    requires names { names.now ≡ names_of program.now }
+    requires names { names.now ≡ names_of program.now.decls.items }
     requires fits { Fits program.now device.old }
     requires few { reader.old.taken ≤ limit }
     requires number { device.old.number + length reader.old.chunk ≤ reader.old.taken }
-    ensures { (start : Seen) → Starts start (O.seen out.old) program.now reader.old device.old → Runs start (O.seen out.new) result }
+    ensures { (start : Seen) → Starts start (O.seen out.old) program.now reader.old device.old → Runs Job.Run start (O.seen out.new) result }
 {
     let mut line = ClippedLine::new(alloc, LINE_KEPT);
     'lines: loop {
@@ -201,7 +229,7 @@ fn run_program<O: Outside>(
     requires built { IsBuilt program.now }
     requires few { reader.old.taken ≤ limit }
     requires ahead { length reader.old.chunk ≤ reader.old.taken }
-    ensures { (start : Seen) (text : Clipped) → PartIs reader.old text is_divided start (O.seen out.old) → program_of text.items ≡ Some program.now → Runs start (O.seen out.new) result }
+    ensures { (start : Seen) (text : Clipped) → PartIs reader.old text is_divided start (O.seen out.old) → Decides Job.Run text.items (Accepted program.now) → Runs Job.Run start (O.seen out.new) result }
 {
     let Ok(names) = Names::of(alloc, program) else {
         return finish(out, Status::Memory);
@@ -215,23 +243,95 @@ fn run_program<O: Outside>(
     serve(alloc, program, &names, &mut device, reader, out)
 }
 
+/// A program that was read, and whether a separator stands behind it.
+#[derive(Drop)]
+struct Opened {
+    program: Program,
+    is_divided: bool,
+}
+
+/// Reads the program part for a job. Where that can't be, the run has ended, and the refusal is its status.
+fn open<O: Outside>(
+    alloc: Global,
+    job: Job,
+    reader: &mut Reader,
+    out: &mut O,
+) -> Result<Opened, Status>
+    requires start { reader.old ≡ record { chunk = []; taken = 0 } }
+    ensures opened { IfOk result (λ opened. Opens job reader.new opened.is_divided opened.program (O.seen out.old) (O.seen out.new)) }
+    ensures built { IfOk result (λ opened. job ≡ Job.Run → IsBuilt opened.program) }
+    ensures ended { (s : Status) → result ≡ Err s → Runs job (O.seen out.old) (O.seen out.new) s }
+{
+    let part = match read_part(alloc, reader, out) {
+        Ok(part) => part,
+        Err(Stop::Memory) => return Err(finish(out, Status::Memory)),
+        Err(Stop::Input) => return Err(finish(out, Status::Input)),
+        Err(Stop::TooLong) => return Err(finish(out, Status::TooLong)),
+    };
+    match read_program(alloc, job, part.text.bytes()) {
+        Ok(program) => Ok(Opened {
+            program,
+            is_divided: part.is_divided,
+        }),
+        Err(ProgramFault::Memory) => Err(finish(out, Status::Memory)),
+        Err(ProgramFault::Refused(why)) => Err(refuse(alloc, out, why)),
+    }
+}
+
 /// Reads a program part and runs it.
 fn run<O: Outside>(alloc: Global, out: &mut O) -> Status
-    ensures { Runs (O.seen out.old) (O.seen out.new) result }
+    ensures { Runs Job.Run (O.seen out.old) (O.seen out.new) result }
 {
     let mut reader = Reader::new();
-    let part = match read_part(alloc, &mut reader, out) {
-        Ok(part) => part,
-        Err(Stop::Memory) => return finish(out, Status::Memory),
-        Err(Stop::Input) => return finish(out, Status::Input),
-        Err(Stop::TooLong) => return finish(out, Status::TooLong),
+    match open(alloc, Job::Run, &mut reader, out) {
+        Ok(opened) => run_program(alloc, &opened.program, opened.is_divided, &mut reader, out),
+        Err(status) => status,
+    }
+}
+
+/// How many bytes the first line of a text has, with its LF.
+fn line_len(text: &[u8]) -> usize
+    ensures some { 0 < length text.now → 0 < result }
+    ensures within { result ≤ length text.now }
+{
+    for (place, byte) in text.iter().enumerate() {
+        if *byte == b'\n' {
+            return place + 1;
+        }
+    }
+    text.len()
+}
+
+/// Says a text, line by line.
+fn say_lines<O: Outside>(out: &mut O, text: &[u8]) -> Result<(), Failed>
+    ensures said { OnOk result (Does (O.seen out.old) (O.seen out.new) [] text.now none) }
+    ensures failed { OnErr result (Breaks (O.seen out.old) (O.seen out.new) text.now none) }
+{
+    let mut told = 0;
+    while told < text.len() {
+        let behind = told + line_len(&text[told..]);
+        say_all(out, &text[told..behind])?;
+        told = behind;
+    }
+    Ok(())
+}
+
+/// Reads a program part and says its canonical text.
+fn check<O: Outside>(alloc: Global, out: &mut O) -> Status
+    ensures { Runs Job.Check (O.seen out.old) (O.seen out.new) result }
+{
+    let mut reader = Reader::new();
+    let opened = match open(alloc, Job::Check, &mut reader, out) {
+        Ok(opened) => opened,
+        Err(status) => return status,
     };
-    let program = match read_program(alloc, part.text.bytes()) {
-        Ok(program) => program,
-        Err(ProgramFault::Memory) => return finish(out, Status::Memory),
-        Err(ProgramFault::NotBuilt) => return finish(out, Status::Program),
+    let Ok(text) = print_program(alloc, &opened.program) else {
+        return finish(out, Status::Memory);
     };
-    run_program(alloc, &program, part.is_divided, &mut reader, out)
+    match say_lines(out, text.as_slice()) {
+        Ok(()) => Status::Done,
+        Err(_) => Status::Output,
+    }
 }
 
 /// Does a job over the input and the output of an outside, and gives the status that it ends with.
@@ -239,14 +339,15 @@ fn run<O: Outside>(alloc: Global, out: &mut O) -> Status
 /// What it says is a function of the bytes read and of what failed: `docs/SESSION.md` has the
 /// answers, and when each status comes. Memory for the input is constant, whatever its length.
 pub fn session<O: Outside>(alloc: Global, job: &Job, out: &mut O) -> Status
-    ensures runs { Runs (O.seen out.old) (O.seen out.new) result }
-    ensures end { EndCause (O.seen out.old) (O.seen out.new) result }
-    ensures program { ProgramCause (O.seen out.old) (O.seen out.new) result }
+    ensures runs { Runs job.now (O.seen out.old) (O.seen out.new) result }
+    ensures end { EndCause job.now (O.seen out.old) (O.seen out.new) result }
+    ensures program { ProgramCause job.now (O.seen out.old) (O.seen out.new) result }
     ensures input { InputCause (O.seen out.old) (O.seen out.new) result }
     ensures output { OutputCause (O.seen out.old) (O.seen out.new) result }
     ensures too_long { TooLongCause (O.seen out.old) (O.seen out.new) result }
 {
     match job {
         Job::Run => run(alloc, out),
+        Job::Check => check(alloc, out),
     }
 }

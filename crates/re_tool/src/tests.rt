@@ -117,6 +117,13 @@ fn other_words_are_refused(rt: HostRuntime) -> Result<(), TestFail> {
     );
     assert!(rt;
         is_ran(
+            &run_with(&rt, rt.alloc(), &["check", "check"], SUM, &[])?,
+            Status::Words,
+            bad
+        )
+    );
+    assert!(rt;
+        is_ran(
             &run_with(&rt, rt.alloc(), &[], SUM, &[])?,
             Status::Words,
             bad
@@ -219,25 +226,221 @@ fn bad_lines_lose_nothing(rt: HostRuntime) -> Result<(), TestFail> {
     Ok(())
 }
 
+/// Whether this job refuses the program part with this text.
+fn is_refused(
+    rt: &(impl Threads + Wait + Sync),
+    alloc: Global,
+    word: &str,
+    input: &[u8],
+    why: &[u8],
+) -> Result<bool, AllocError> {
+    let mut line = b"rescala: program: ".to_vec(alloc)?;
+    line.extend_from_slice(why)?;
+    line.push(b'\n')?;
+    let ran = run_with(rt, alloc, &[word], input, &[])?;
+    Ok(is_ran(&ran, Status::Program, &line))
+}
+
 #[test]
-fn other_programs_are_not_built(rt: HostRuntime) -> Result<(), TestFail> {
+fn programs_are_refused(rt: HostRuntime) -> Result<(), TestFail> {
     let alloc = rt.alloc();
-    let refused = b"rescala: program: not built\n";
-    assert!(rt; is_ran(&run(&rt, rt.alloc(), b"")?, Status::Program, refused));
-    assert!(rt;
-        is_ran(
-            &run(&rt, rt.alloc(), b"device a; event e: int;\n---\nget a e\n")?,
-            Status::Program,
-            refused
-        )
-    );
-    // A sum as long as a program part may be.
+    let cases: [(&[u8], &[u8]); 13] = [
+        (b"", b"no device"),
+        (b"# nothing\n---\nget a x\n", b"no device"),
+        (b"device a;\nvar x: int = 1 $", b"no token at 25"),
+        (b"device a\nvar", b"unexpected token at 9"),
+        (b"device a", b"unexpected token at 8"),
+        (b"device a; signal s = t;", b"declaration 2: unknown name"),
+        (b"device a; device a;", b"declaration 2: declared twice"),
+        (
+            b"device a; signal s = 1 + true;",
+            b"declaration 2: wrong kind",
+        ),
+        (
+            b"device a; device b; device c; device d; device e; device f; device g; device h; device i; device j; device k; device l; device m; device n; device o; device p; device q;",
+            b"declaration 17: too many",
+        ),
+        (b"signal s = 1 < 2 < 3;", b"unexpected token at 17"),
+        (b"var x: int = 1 in 5;", b"unexpected token at 18"),
+        (
+            b"device a; event e: int; signal s = e;",
+            b"declaration 3: wrong kind",
+        ),
+        (b"device a; var x: int = 007;", b"no token at 23"),
+    ];
+    for (input, why) in cases {
+        assert!(rt; is_refused(&rt, alloc, "run", input, why)?);
+        assert!(rt; is_refused(&rt, alloc, "check", input, why)?);
+    }
+    Ok(())
+}
+
+#[test]
+fn unexpected_tokens_are_refused(rt: HostRuntime) -> Result<(), TestFail> {
+    let alloc = rt.alloc();
+    let cases: [(&[u8], &[u8]); 18] = [
+        (b"x", b"unexpected token at 0"),
+        (b"device", b"unexpected token at 6"),
+        (b"device 1;", b"unexpected token at 7"),
+        (b"device a; ;", b"unexpected token at 10"),
+        (b"counter c: int;", b"unexpected token at 9"),
+        (b"var x: int = 1", b"unexpected token at 14"),
+        (b"var x: int = y + 1;", b"unexpected token at 15"),
+        (b"event e = map(x 1);", b"unexpected token at 16"),
+        (b"event e = either(x, 1);", b"unexpected token at 20"),
+        (b"fold n: int = 0 on e self;", b"unexpected token at 21"),
+        (b"signal s = 1 +;", b"unexpected token at 14"),
+        (b"signal s = (1;", b"unexpected token at 13"),
+        (b"signal s = if 1 then 2;", b"unexpected token at 22"),
+        (
+            b"signal s = 1 + if 1 then 2 else 3;",
+            b"unexpected token at 15",
+        ),
+        (b"signal s = fault(99);", b"unexpected token at 17"),
+        (b"signal s = has(t);", b"unexpected token at 16"),
+        (b"signal s = 1 in 1;", b"unexpected token at 13"),
+        (
+            b"signal s = 9223372036854775808;",
+            b"unexpected token at 11",
+        ),
+    ];
+    for (input, why) in cases {
+        assert!(rt; is_refused(&rt, alloc, "check", input, why)?);
+    }
+    Ok(())
+}
+
+/// A device and a signal of the number 1 in so many brackets.
+fn in_brackets(alloc: Global, count: usize) -> Result<Vec<u8>, AllocError> {
+    let mut text = b"device a;\nsignal s = ".to_vec(alloc)?;
+    for _ in 0..count {
+        text.push(b'(')?;
+    }
+    text.push(b'1')?;
+    for _ in 0..count {
+        text.push(b')')?;
+    }
+    text.push(b';')?;
+    Ok(text)
+}
+
+/// A device and a signal that is a sum of so many ones.
+fn sum_of_ones(alloc: Global, terms: usize) -> Result<Vec<u8>, AllocError> {
+    let mut text = b"device a;\nsignal s = 1".to_vec(alloc)?;
+    for _ in 1..terms {
+        text.extend_from_slice(b"+1")?;
+    }
+    text.push(b';')?;
+    Ok(text)
+}
+
+#[test]
+fn limits_on_expressions_hold(rt: HostRuntime) -> Result<(), TestFail> {
+    let alloc = rt.alloc();
+    let most_open = run_with(&rt, alloc, &["check"], &in_brackets(alloc, 127)?, &[])?;
+    assert!(rt; is_ran(&most_open, Status::Done, b"device a;\nsignal s = 1;\n"));
+    let open = in_brackets(alloc, 128)?;
+    assert!(rt; is_refused(&rt, alloc, "check", &open, b"too deep at 148")?);
+    let deepest = run_with(&rt, alloc, &["run"], &sum_of_ones(alloc, 64)?, &[])?;
+    assert!(rt; is_ran(&deepest, Status::Done, b""));
+    let deep = sum_of_ones(alloc, 65)?;
+    assert!(rt; is_refused(&rt, alloc, "run", &deep, b"too deep at 21")?);
+    Ok(())
+}
+
+#[test]
+fn long_and_deep_programs_are_refused(rt: HostRuntime) -> Result<(), TestFail> {
+    let alloc = rt.alloc();
+    let mut open = b"device a;\nsignal s = ".to_vec(alloc)?;
+    for _ in 0..128 {
+        open.push(b'(')?;
+    }
+    assert!(rt; is_refused(&rt, alloc, "check", &open, b"too deep at 148")?);
+    // A sum as long as a program part may be: its depth is over 64.
     let mut sum = b"device a; var x: int = 1; signal s = x".to_vec(alloc)?;
     for _ in 0..32000 {
         sum.extend_from_slice(b"+x")?;
     }
     sum.push(b';')?;
-    assert!(rt; is_ran(&run(&rt, rt.alloc(), &sum)?, Status::Program, refused));
+    assert!(rt; is_refused(&rt, alloc, "run", &sum, b"too deep at 37")?);
+    sum.resize(65_537, b' ')?;
+    assert!(rt; is_refused(&rt, alloc, "run", &sum, b"too long")?);
+    // Sums of 64 terms, whose brackets make the canonical text longer than the program part.
+    let mut sums = b"device a; var x: int = 1;".to_vec(alloc)?;
+    for n in 0u32..300 {
+        let front = format!(in alloc; "signal s{n} = x")?;
+        sums.extend_from_slice(front.as_bytes())?;
+        for _ in 1..64 {
+            sums.extend_from_slice(b"+x")?;
+        }
+        sums.push(b';')?;
+    }
+    assert!(rt; sums.len() < 65_536);
+    assert!(rt; is_refused(&rt, alloc, "check", &sums, b"too long")?);
+    Ok(())
+}
+
+#[test]
+fn programs_are_checked(rt: HostRuntime) -> Result<(), TestFail> {
+    let alloc = rt.alloc();
+    let cases: [(&[u8], &[u8]); 7] = [
+        (
+            b"device a; signal s = 1 - 2 - 3; signal t = 1 + 2 * 3 < 4 and true or false; signal u = if true then - 1 else 2 + -0;",
+            b"device a;\nsignal s = ((1 - 2) - 3);\nsignal t = ((((1 + (2 * 3)) < 4) and true) or false);\nsignal u = (if true then -1 else (2 + 0));\n",
+        ),
+        (
+            b"device a; event e: int; event m = map(e, (arg) % 2); event f = filter(m, not(arg >= 1)); event g = either(m, f); var v: bool = false in 4; event d = changed(v);",
+            b"device a;\nevent e: int;\nevent m = map(e, (arg % 2));\nevent f = filter(m, not((arg >= 1)));\nevent g = either(m, f);\nvar v: bool = false in 4;\nevent d = changed(v);\n",
+        ),
+        (
+            b"device a; set t: sym; symbol red; signal n = size(t) / 2; signal h = has(t, red) == recover(fault(100), 1 != 2);",
+            b"device a;\nset t: sym;\nsymbol red;\nsignal n = (size(t) / 2);\nsignal h = (has(t, red) == recover(fault(100), (1 != 2)));\n",
+        ),
+        (
+            b"device a; var x:int=-3; signal s=if x<0 then 0-x else x;",
+            b"device a;\nvar x: int = -3 in 1;\nsignal s = (if (x < 0) then (0 - x) else x);\n",
+        ),
+        (b"device a;\n---\nget a a\n", b"device a;\n"),
+        (
+            b"device a; device b; symbol red; register m: sym = red; set t: int; event e: int;",
+            b"device a;\ndevice b;\nsymbol red;\nregister m: sym = red;\nset t: int;\nevent e: int;\n",
+        ),
+        (
+            b"device a; event e: int; fold n: int = 0 on e do self + arg in 2; counter c; event d = changed(c); signal z = fault(100) == n;",
+            b"device a;\nevent e: int;\nfold n: int = 0 on e do (self + arg) in 2;\ncounter c;\nevent d = changed(c);\nsignal z = (fault(100) == n);\n",
+        ),
+    ];
+    for (input, text) in cases {
+        let ran = run_with(&rt, alloc, &["check"], input, &[])?;
+        assert!(rt; is_ran(&ran, Status::Done, text));
+    }
+    let second = [failing(Call::Say, 2)];
+    let ran = run_with(&rt, alloc, &["check"], b"device a; device b;", &second)?;
+    assert!(rt; is_ran(&ran, Status::Output, b"device a;\n"));
+    Ok(())
+}
+
+#[test]
+fn other_programs_are_not_built(rt: HostRuntime) -> Result<(), TestFail> {
+    let alloc = rt.alloc();
+    let cases: [&[u8]; 7] = [
+        b"device a; device b;",
+        b"device a; event e: int;\n---\nget a e\n",
+        b"device a; var b: bool = true;",
+        b"device a; signal s = 1 - 1;",
+        b"device a; signal s = true;",
+        b"device a; counter c;",
+        b"device a; symbol red;",
+    ];
+    for input in cases {
+        assert!(rt; is_refused(&rt, alloc, "run", input, b"not built")?);
+    }
+    let ran = run(
+        &rt,
+        alloc,
+        b"var x: int = 1 in 4; device a;\n---\nget a x\n",
+    )?;
+    assert!(rt; is_ran(&ran, Status::Done, b"1\n"));
     Ok(())
 }
 

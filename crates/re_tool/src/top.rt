@@ -1,13 +1,13 @@
 //! The top call.
-ghost use Rattle.std.specs.Prelude.{◌≡◌, true, false, map};
+ghost use Rattle.std.specs.Prelude.{◌≡◌, Some, None, map};
 ghost use Rattle.std.specs.String.{string_bytes};
 ghost use Rattle.re_tool.specs.Causes.{EndCause, ProgramCause, InputCause, OutputCause, TooLongCause};
 ghost use Rattle.re_tool.specs.Session.{Runs, Refuses};
-ghost use Rattle.re_tool.specs.Words.{is_accepted};
+ghost use Rattle.re_tool.specs.Words.{job_of};
 
 use crate::running::{finish, session};
 use crate::status::Status;
-use crate::words::{Wish, WordFault, read_words};
+use crate::words::{Job, Wish, WordFault, read_words};
 use re_outside::{Gate, Outside};
 use std::alloc::Global;
 use std::sync::Wait;
@@ -25,11 +25,11 @@ pub fn tool<R: Threads + Wait + Sync, O: Outside + Send, G: Gate>(
     out: &mut O,
     _gate: &G,
 ) -> Status
-    ensures runs { is_accepted (map string_bytes words.now) ≡ true → Runs (O.Outside.seen out.old) (O.Outside.seen out.new) result }
-    ensures refused { is_accepted (map string_bytes words.now) ≡ false → Refuses (O.Outside.seen out.old) (O.Outside.seen out.new) result }
-    ensures words { result ≡ Status.Words → is_accepted (map string_bytes words.now) ≡ false }
-    ensures end { EndCause (O.Outside.seen out.old) (O.Outside.seen out.new) result }
-    ensures program { is_accepted (map string_bytes words.now) ≡ true → ProgramCause (O.Outside.seen out.old) (O.Outside.seen out.new) result }
+    ensures runs { (job : Job) → job_of (map string_bytes words.now) ≡ Some job → Runs job (O.Outside.seen out.old) (O.Outside.seen out.new) result }
+    ensures refused { job_of (map string_bytes words.now) ≡ None → Refuses (O.Outside.seen out.old) (O.Outside.seen out.new) result }
+    ensures words { result ≡ Status.Words → job_of (map string_bytes words.now) ≡ None }
+    ensures end { (job : Job) → job_of (map string_bytes words.now) ≡ Some job → EndCause job (O.Outside.seen out.old) (O.Outside.seen out.new) result }
+    ensures program { (job : Job) → job_of (map string_bytes words.now) ≡ Some job → ProgramCause job (O.Outside.seen out.old) (O.Outside.seen out.new) result }
     ensures input { InputCause (O.Outside.seen out.old) (O.Outside.seen out.new) result }
     ensures output { OutputCause (O.Outside.seen out.old) (O.Outside.seen out.new) result }
     ensures too_long { TooLongCause (O.Outside.seen out.old) (O.Outside.seen out.new) result }

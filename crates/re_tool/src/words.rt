@@ -1,7 +1,7 @@
 //! The words of a command line.
-ghost use Rattle.std.specs.Prelude.{◌≡◌, true, false, map, IfOk, Err};
+ghost use Rattle.std.specs.Prelude.{◌≡◌, map, IfOk, Err, None};
 ghost use Rattle.std.specs.String.{string_bytes};
-ghost use Rattle.re_tool.specs.Words.{is_accepted};
+ghost use Rattle.re_tool.specs.Words.{job_of, IsWish};
 
 use std::alloc::Global;
 use thiserror::Error;
@@ -11,6 +11,8 @@ use thiserror::Error;
 pub enum Job {
     /// Runs the program and the session of the input.
     Run,
+    /// Says the canonical text of the program of the input.
+    Check,
 }
 
 /// What the words of a command line ask for.
@@ -30,14 +32,19 @@ pub enum WordFault {
 
 /// Reads the words of a command line, without the program's name.
 ///
-/// Accepted is the one word `run`; `Words` comes exactly for all others. `docs/SESSION.md` has the rule.
+/// Accepted is one word, `run` or `check`; `Words` comes exactly for all others. `docs/SESSION.md` has the rule.
 pub fn read_words(_alloc: Global, words: &[String]) -> Result<Wish, WordFault>
-    ensures job { IfOk result (λ wish. wish ≡ Wish.Job Job.Run) }
-    ensures accepted { IfOk result (λ wish. is_accepted (map string_bytes words.now) ≡ true) }
-    ensures refused { result ≡ Err WordFault.Words → is_accepted (map string_bytes words.now) ≡ false }
+    ensures accepted { IfOk result (λ wish. IsWish (job_of (map string_bytes words.now)) wish) }
+    ensures refused { result ≡ Err WordFault.Words → job_of (map string_bytes words.now) ≡ None }
 {
-    match words {
-        [word] if word.as_bytes() == b"run".as_slice() => Ok(Wish::Job(Job::Run)),
-        _ => Err(WordFault::Words),
+    let [word] = words else {
+        return Err(WordFault::Words);
+    };
+    if word.as_bytes() == b"run".as_slice() {
+        return Ok(Wish::Job(Job::Run));
     }
+    if word.as_bytes() == b"check".as_slice() {
+        return Ok(Wish::Job(Job::Check));
+    }
+    Err(WordFault::Words)
 }

@@ -21,17 +21,17 @@ lines-init g c = record {
 pub returns-in-Err-Memory : goal.returns-in-Err-Memory
 returns-in-Err-Memory g c =
     let e = rw c.in-Err-Memory.field-0-is at c.in-Err-Memory.ensures in
-    λ start h. near_finish _ _ _ _ (near_halted _ _ _ _ _ _ _ c.next.new.line 1026 (c.lines.invariant.so_far start h) e.0 e.1) _ (λ q. absurd (cc)) c.finish.ensures
+    λ start h. near_finish _ _ _ _ _ (near_halted _ _ _ _ _ _ _ c.next.new.line 1026 (c.lines.invariant.so_far start h) e.0 e.1) _ (λ q. absurd (cc)) c.finish.ensures
 
 pub returns-in-Err-Input : goal.returns-in-Err-Input
 returns-in-Err-Input g c =
     let e = rw c.in-Err-Input.field-0-is at c.in-Err-Input.ensures in
-    λ start h. near_finish _ _ _ _ (near_failed _ _ _ _ _ _ _ _ _ (c.lines.invariant.so_far start h) e.0 e.1 e.2) _ (λ q. absurd (cc)) c.finish-in-Err-Input.ensures
+    λ start h. near_finish _ _ _ _ _ (near_failed _ _ _ _ _ _ _ _ _ (c.lines.invariant.so_far start h) e.0 e.1 e.2) _ (λ q. absurd (cc)) c.finish-in-Err-Input.ensures
 
 pub returns-in-Ok-TooLong : goal.returns-in-Ok-TooLong
 returns-in-Ok-TooLong g c =
     let e = rw c.in-Ok-TooLong.field-0-is at c.in-Ok-TooLong.ensures in
-    λ start h. near_finish _ _ _ _ (near_too_long _ _ _ _ _ _ _ _ _ (c.lines.invariant.so_far start h) e.0 e.1 e.2) _ (λ q. absurd (cc)) c.finish-in-Ok-TooLong.ensures
+    λ start h. near_finish _ _ _ _ _ (near_too_long _ _ _ _ _ _ _ _ _ (c.lines.invariant.so_far start h) e.0 e.1 e.2) _ (λ q. absurd (cc)) c.finish-in-Ok-TooLong.ensures
 
 pub lines-smaller : goal.lines-smaller
 lines-smaller g c =
@@ -54,7 +54,7 @@ pub returns-in-Err-Memory-turn : goal.returns-in-Err-Memory-turn
 returns-in-Err-Memory-turn g c =
     let e = rw c.in-Ok-Line.field-0-is at c.in-Ok-Line.ensures in
     let t = rw c.in-Err-Memory-turn.field-0-is at c.in-Err-Memory-turn.ensures.turns in
-    λ start h. near_finish _ _ _ _ (near_memory _ _ _ _ _ _ (ready_line _ _ _ _ _ _ _ _ _ (c.lines.invariant.so_far start h) e.0 e.1) t) _ (λ q. absurd (cc)) c.finish-in-Err-Memory-turn.ensures
+    λ start h. near_finish _ _ _ _ _ (near_memory _ _ _ _ _ _ (ready_line _ _ _ _ _ _ _ _ _ (c.lines.invariant.so_far start h) e.0 e.1) t) _ (λ q. absurd (cc)) c.finish-in-Err-Memory-turn.ensures
 
 pub returns-in-Err-Output : goal.returns-in-Err-Output
 returns-in-Err-Output g c =
@@ -72,7 +72,7 @@ returns-in-Ok-End g c =
           rw (w.out-is, w.result-is) (λ start h. runs_done _ _ _ _ _ _ (q start h).0 _ (q start h).1 e.3 (turns_kept_last _ _ _ _ _ _ _ _ e.0.keeps c.lines.invariant.most t))
       | in-Err-Memory-turn-2 w ↦
           let t = rw w.in-Err-Memory-turn-2.field-0-is at w.in-Err-Memory-turn-2.ensures.turns in
-          rw (w.out-is, w.result-is) (λ start h. near_finish _ _ _ _ (near_memory _ _ _ _ _ _ (q start h).0 t) _ (λ x. absurd (cc)) w.finish-in-Err-Memory-turn-2.ensures)
+          rw (w.out-is, w.result-is) (λ start h. near_finish _ _ _ _ _ (near_memory _ _ _ _ _ _ (q start h).0 t) _ (λ x. absurd (cc)) w.finish-in-Err-Memory-turn-2.ensures)
       | in-Err-Output-turn w ↦
           let t = rw (w.in-Err-Output-turn.field-0-is, c.bytes-in-Ok-End.ensures) at w.in-Err-Output-turn.ensures.turns in
           rw (w.out-is, w.result-is) (λ start h. runs_output _ _ _ _ _ _ (q start h).0 _ (breaks_kept_last _ _ _ _ _ _ _ _ e.0.keeps c.lines.invariant.most t))

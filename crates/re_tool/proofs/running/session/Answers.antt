@@ -1,11 +1,23 @@
-use Rattle.re_tool.proofs.Caused.{program_cause, input_cause, too_long_cause}
+use Rattle.re_tool.proofs.Caused.{program_cause, input_cause, too_long_cause, end_cause}
 use Rattle.re_tool.proofs.running.session.Goals as goal
 
-pub returns-clause-program : goal.returns-clause-program
-returns-clause-program g c = program_cause _ _ _ c.run.ensures
+pub returns-in-Run-clause-program : goal.returns-in-Run-clause-program
+returns-in-Run-clause-program g c = rw c.in-Run.is (program_cause _ _ _ _ c.run.ensures)
 
-pub returns-clause-input : goal.returns-clause-input
-returns-clause-input g c = input_cause _ _ _ c.run.ensures
+pub returns-in-Run-clause-input : goal.returns-in-Run-clause-input
+returns-in-Run-clause-input g c = input_cause _ _ _ _ c.run.ensures
 
-pub returns-clause-too_long : goal.returns-clause-too_long
-returns-clause-too_long g c = too_long_cause _ _ _ c.run.ensures
+pub returns-in-Run-clause-too_long : goal.returns-in-Run-clause-too_long
+returns-in-Run-clause-too_long g c = too_long_cause _ _ _ _ c.run.ensures
+
+pub returns-in-Check-clause-end : goal.returns-in-Check-clause-end
+returns-in-Check-clause-end g c = rw c.in-Check.is (end_cause _ _ _ _ c.check.ensures)
+
+pub returns-in-Check-clause-program : goal.returns-in-Check-clause-program
+returns-in-Check-clause-program g c = rw c.in-Check.is (program_cause _ _ _ _ c.check.ensures)
+
+pub returns-in-Check-clause-input : goal.returns-in-Check-clause-input
+returns-in-Check-clause-input g c = input_cause _ _ _ _ c.check.ensures
+
+pub returns-in-Check-clause-too_long : goal.returns-in-Check-clause-too_long
+returns-in-Check-clause-too_long g c = too_long_cause _ _ _ _ c.check.ensures

@@ -1,4 +1,9 @@
-use Rattle.std.proofs.Common.{arith}
+use Rattle.std.proofs.Common.{arith, ◌≡◌, ◌∙◌, sym, subst, refl, Option, Some}
+use Rattle.re_tool.specs.declared.words.Job.{Job}
+use Rattle.re_tool.specs.declared.words.Wish.{Wish}
+use Rattle.re_tool.specs.declared.words.Wish.TheVariants as wish
+use Rattle.re_tool.specs.Session.{Runs}
+use Rattle.re_tool.specs.Words.{IsWish}
 use Rattle.re_outside.proofs.Does.{does-nil}
 use Rattle.re_tool.proofs.Caused.{never_words, program_cause}
 use Rattle.re_tool.proofs.Endings.{near_finish}
@@ -6,10 +11,23 @@ use Rattle.re_tool.proofs.Starting.{near_stops}
 use Rattle.re_tool.proofs.top.tool.Goals as goal
 
 pub returns-in-Ok-Job-clause-words : goal.returns-in-Ok-Job-clause-words
-returns-in-Ok-Job-clause-words g c = λ h. absurd (never_words _ _ _ c.session.ensures.runs h)
+returns-in-Ok-Job-clause-words g c = λ h. absurd (never_words _ _ _ _ c.session.ensures.runs h)
+
+-- the job that is wished is the one that the words ask for
+one_job : (o : Option Job) (w : Wish) (a b : Job) → IsWish o w → w ≡ wish.Job a → o ≡ Some b → a ≡ b
+one_job o w a b e is h = let k : Some a ≡ Some b = sym (subst (IsWish o) is e) ∙ h in cc
+
+-- there is one wish, a job
+wished : (w : Wish) → (a : Job) × (w ≡ wish.Job a)
+wished (wish.Job a) = (a, refl)
+
+pub returns-in-Ok-Job-clause-runs : goal.returns-in-Ok-Job-clause-runs
+returns-in-Ok-Job-clause-runs g c = λ j h.
+    let q = wished c.in-Ok-Job.field-0 in
+    subst (λ x. Runs x (g.O.Outside.seen c.args.out.now) (g.O.Outside.seen c.session.new.out) c.session.result) (one_job _ c.in-Ok-Job.field-0 q.0 j c.in-Ok-Job.ensures.accepted q.1 h) (rw q.1 at c.session.ensures.runs)
 
 pub returns-in-Err-Memory-clause-runs : goal.returns-in-Err-Memory-clause-runs
-returns-in-Err-Memory-clause-runs g c = λ h. near_finish _ _ _ _ (near_stops _ _ _ (omega arith) (does-nil _)) _ (λ q. absurd (cc)) c.finish-in-Err-Memory.ensures
+returns-in-Err-Memory-clause-runs g c = λ j h. near_finish _ _ _ _ _ (near_stops _ _ _ _ (omega arith) (does-nil _)) _ (λ q. absurd (cc)) c.finish-in-Err-Memory.ensures
 
 pub returns-in-Err-Memory-clause-program : goal.returns-in-Err-Memory-clause-program
-returns-in-Err-Memory-clause-program g c = λ h. program_cause _ _ _ (near_finish _ _ _ _ (near_stops _ _ _ (omega arith) (does-nil _)) _ (λ q. absurd (cc)) c.finish-in-Err-Memory.ensures)
+returns-in-Err-Memory-clause-program g c = λ j h. program_cause _ _ _ _ (near_finish _ _ _ _ _ (near_stops _ _ _ _ (omega arith) (does-nil _)) _ (λ q. absurd (cc)) c.finish-in-Err-Memory.ensures)
