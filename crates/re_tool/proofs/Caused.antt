@@ -16,7 +16,7 @@ use Rattle.re_tool.specs.Lines.{split, ended}
 use Rattle.re_tool.specs.Part.{Part, divided, part_of, part_by, is_over}
 use Rattle.re_tool.specs.Reads.{limit}
 use Rattle.re_tool.specs.Session.{Runs, Finishes, Refuses, one_if, is_output}
-use Rattle.re_tool.specs.Verdict.{Verdict, Unknown, Rejected, Accepted, HasVerdict, IsJudged}
+use Rattle.re_tool.specs.Verdict.{Verdict, Unknown, Rejected, Accepted, HasVerdict, Decides, IsJudged}
 
 -- what the answers' status is
 answers_status : (j : Job) (v : Verdict) (read : List ℕ) (o : Outcomes) → ((answers j v read o).1 ≡ status.Memory) ⊎ ((answers j v read o).1 ≡ status_of j v read o.input_failed)
@@ -222,6 +222,12 @@ at_program j a b r t =
 stopped_status : (j : Job) (v : Verdict) (read : List ℕ) (o : Outcomes) (n : ℕ × Bool) → o.stopped ≡ Some n → (answers j v read o).1 ≡ status.Memory
 stopped_status j v read o n h = ap (λ x. (answers_by x j v read o.commands o.input_failed).1) h
 
+-- a verdict on a part that is refused ends the run
+refused_status_with : (j : Job) (v : Verdict) (text : List ℕ) (why : Refusal) (s : Status) → Decides j text v → HasVerdict j text (Rejected why) → status_with v s ≡ status.Program
+refused_status_with j Unknown text why s d h = absurd d.has
+refused_status_with j (Rejected other) text why s d h = refl
+refused_status_with j (Accepted p) text why s d h = let e : Rejected why ≡ Accepted p = d.only (Rejected why) h in absurd (cc)
+
 -- where the part that was read is refused, the run ends with 3
 refused_by : (j : Job) (a b : Seen) (s : Status) (r : Runs j a b s) (part : Part) (why : Refusal) → part_of r.read r.outcomes.input_failed ≡ Some part → HasVerdict j part.text (Rejected why) → IsUnlessEnded status.Program s
 refused_by j a b s r part why is h = by (subst (λ x. IsJudged j r.verdict x r.outcomes.stopped) is r.judged)
@@ -229,8 +235,7 @@ refused_by j a b s r part why is h = by (subst (λ x. IsJudged j r.verdict x r.o
     by : IsJudged j r.verdict (Some part) r.outcomes.stopped → IsUnlessEnded status.Program s
     by (inr q) = joined (answers j r.verdict r.read r.outcomes).1 status.Program s (inl (stopped_status j r.verdict r.read r.outcomes (0, true) q.1)) (told_status j a b s r)
     by (inl q) =
-        let one : r.verdict ≡ Rejected why = sym (q.only (Rejected why) h) in
-        let e : status_of j r.verdict r.read r.outcomes.input_failed ≡ status.Program = ap (λ x. status_in j r.verdict x (ending r.read r.outcomes.input_failed)) is ∙ ap (λ v. status_with v (behind_part j (ending r.read r.outcomes.input_failed))) one in
+        let e : status_of j r.verdict r.read r.outcomes.input_failed ≡ status.Program = ap (λ x. status_in j r.verdict x (ending r.read r.outcomes.input_failed)) is ∙ refused_status_with j r.verdict part.text why (behind_part j (ending r.read r.outcomes.input_failed)) q h in
         subst (λ x. IsUnlessEnded x s) e (ends_with j a b s r)
 
 -- a separator that was read

@@ -7,7 +7,7 @@ use Rattle.re_terms.specs.declared.program.Program.{Program}
 use Rattle.re_tokens.specs.TokenGrammar.{NoTokenAt}
 use Rattle.re_tokens.specs.declared.fault.LexFault.{LexFault}
 use Rattle.re_tokens.specs.declared.fault.LexFault.TheVariants as lex
-use Rattle.re_syntax.specs.Places.{IsUnexpected}
+use Rattle.re_syntax.specs.Places.{IsUnexpected, IsTooDeep}
 use Rattle.re_syntax.specs.declared.fault.SyntaxFault.{SyntaxFault}
 use Rattle.re_syntax.specs.declared.fault.SyntaxFault.TheVariants as syntax
 use Rattle.re_types.specs.declared.fault.TypeFault.{TypeFault}
@@ -22,25 +22,25 @@ use Rattle.re_tool.specs.declared.words.Job.{Job}
 use Rattle.re_tool.specs.declared.words.Job.TheVariants as job
 use Rattle.re_tool.specs.Built.{is_built}
 use Rattle.re_tool.specs.Faults.{lex_fault, syntax_fault, type_fault}
-use Rattle.re_tool.specs.Verdict.{Verdict, Unknown, Rejected, Accepted, HasTokens, Judges, Settles, HasVerdict, Decides, verdict_of}
-use Rattle.re_tool.proofs.Settling.{DeepOnly, TreeOnly, lex_settled, unexpected_settled, deep_settled, tree_settled}
+use Rattle.re_tool.specs.Verdict.{Verdict, Unknown, Rejected, Accepted, HasTokens, HasTree, Judges, no_token, unexpected, too_deep, whole, Settles, HasVerdict, Decides, verdict_of}
+use Rattle.re_tool.proofs.Settling.{TreeOnly, tree_settled}
 
 same_refusal : (a b : Refusal) → program.Refused a ≡ program.Refused b → a ≡ b
 same_refusal a b e = cc
 
--- a settled refusal in other words
-settled_as : (text : List ℕ) (a b : Refusal) → program.Refused a ≡ program.Refused b → Settles text (Rejected a) → Settles text (Rejected b)
-settled_as text a b e s = subst (λ x. Settles text (Rejected x)) (same_refusal a b e) s
+-- a refusal's verdict in other words
+judged_as : (text : List ℕ) (a b : Refusal) → program.Refused a ≡ program.Refused b → Judges text (Rejected a) → Judges text (Rejected b)
+judged_as text a b e s = subst (λ x. Judges text (Rejected x)) (same_refusal a b e) s
 
-pub lex_judged : (text : List ℕ) (f : LexFault) (why : Refusal) → length text ≤ 65536 → lex_fault f ≡ program.Refused why → ((place : ℕ) → f ≡ lex.At place → NoTokenAt text place) → Settles text (Rejected why)
+pub lex_judged : (text : List ℕ) (f : LexFault) (why : Refusal) → length text ≤ 65536 → lex_fault f ≡ program.Refused why → ((place : ℕ) → f ≡ lex.At place → NoTokenAt text place) → Judges text (Rejected why)
 lex_judged text lex.Memory why few e h = absurd (cc)
-lex_judged text (lex.At place) why few e h = settled_as text (refusal.NoToken place) why e (lex_settled text place few (h place refl))
+lex_judged text (lex.At place) why few e h = judged_as text (refusal.NoToken place) why e (no_token few (h place refl) refl)
 
 pub syntax_judged : (text : List ℕ) (tokens : List Token) (f : SyntaxFault) (why : Refusal) → HasTokens text tokens → syntax_fault f ≡ program.Refused why
-    → ((place : ℕ) → f ≡ syntax.At place → IsUnexpected tokens place) → ((place : ℕ) → f ≡ syntax.Deep place → DeepOnly tokens place) → Settles text (Rejected why)
+    → ((place : ℕ) → f ≡ syntax.At place → IsUnexpected tokens place) → ((place : ℕ) → f ≡ syntax.Deep place → IsTooDeep tokens place) → Judges text (Rejected why)
 syntax_judged text tokens syntax.Memory why has e at deep = absurd (cc)
-syntax_judged text tokens (syntax.At place) why has e at deep = settled_as text (refusal.Unexpected place) why e (unexpected_settled text tokens place has (at place refl))
-syntax_judged text tokens (syntax.Deep place) why has e at deep = settled_as text (refusal.TooDeep place) why e (deep_settled text tokens place has (deep place refl))
+syntax_judged text tokens (syntax.At place) why has e at deep = judged_as text (refusal.Unexpected place) why e (unexpected has (at place refl) refl)
+syntax_judged text tokens (syntax.Deep place) why has e at deep = judged_as text (refusal.TooDeep place) why e (too_deep has (deep place refl) refl)
 
 rejected : (a b : Refusal) → program.Refused a ≡ program.Refused b → Rejected b ≡ Rejected a
 rejected a b e = ap Rejected (sym (same_refusal a b e))
@@ -60,10 +60,10 @@ not_memory f why e h = let k : program.Memory ≡ program.Refused why = sym (ap 
 err_not : (f g : TypeFault) → ◌≡◌ {A = Result Program TypeFault} (Err f) (Err g) → f ≡ g
 err_not f g e = cc
 
-pub type_judged : (text : List ℕ) (tree : Tree) (f : TypeFault) (why : Refusal) (result : Result Program TypeFault) → TreeOnly text tree → type_fault f ≡ program.Refused why → result ≡ Err f → ((result ≡ Err fault.Memory → ⊥) → result ≡ resolved tree) → Settles text (Rejected why)
+pub type_judged : (text : List ℕ) (tree : Tree) (f : TypeFault) (why : Refusal) (result : Result Program TypeFault) → HasTree text tree → type_fault f ≡ program.Refused why → result ≡ Err f → ((result ≡ Err fault.Memory → ⊥) → result ≡ resolved tree) → Judges text (Rejected why)
 type_judged text tree f why result has e is answer =
     let same = answer (λ h. not_memory f why e (err_not f fault.Memory (sym is ∙ h))) in
-    tree_settled text tree (Rejected why) has (fault_verdict f why e ∙ ap verdict_of (sym is ∙ same))
+    whole has (fault_verdict f why e ∙ ap verdict_of (sym is ∙ same))
 
 ok_not : (p : Program) (g : TypeFault) → ◌≡◌ {A = Result Program TypeFault} (Ok p) (Err g) → ⊥
 ok_not p g e = cc
@@ -71,19 +71,19 @@ ok_not p g e = cc
 resolves : (tree : Tree) (p : Program) (result : Result Program TypeFault) → result ≡ Ok p → ((result ≡ Err fault.Memory → ⊥) → result ≡ resolved tree) → Ok p ≡ resolved tree
 resolves tree p result is answer = sym is ∙ answer (λ h. ok_not p fault.Memory (sym is ∙ h))
 
-pub long_judged : (text : List ℕ) (tree : Tree) (p : Program) (result : Result Program TypeFault) → TreeOnly text tree → result ≡ Ok p → ((result ≡ Err fault.Memory → ⊥) → result ≡ resolved tree) → nat_lt 65536 (length (program_text p)) ≡ true → Settles text (Rejected refusal.TooLong)
+pub long_judged : (text : List ℕ) (tree : Tree) (p : Program) (result : Result Program TypeFault) → HasTree text tree → result ≡ Ok p → ((result ≡ Err fault.Memory → ⊥) → result ≡ resolved tree) → nat_lt 65536 (length (program_text p)) ≡ true → Judges text (Rejected refusal.TooLong)
 long_judged text tree p result has is answer long =
     let e : verdict_of (Ok p) ≡ Rejected refusal.TooLong = rw long refl in
-    tree_settled text tree (Rejected refusal.TooLong) has (sym e ∙ ap verdict_of (resolves tree p result is answer))
+    whole has (sym e ∙ ap verdict_of (resolves tree p result is answer))
 
-pub accepted_judged : (text : List ℕ) (tree : Tree) (p : Program) (result : Result Program TypeFault) → TreeOnly text tree → result ≡ Ok p → ((result ≡ Err fault.Memory → ⊥) → result ≡ resolved tree) → nat_lt 65536 (length (program_text p)) ≡ false → Settles text (Accepted p)
+pub accepted_judged : (text : List ℕ) (tree : Tree) (p : Program) (result : Result Program TypeFault) → TreeOnly text tree → result ≡ Ok p → ((result ≡ Err fault.Memory → ⊥) → result ≡ resolved tree) → nat_lt 65536 (length (program_text p)) ≡ false → Settles text p
 accepted_judged text tree p result has is answer short =
     let e : verdict_of (Ok p) ≡ Accepted p = rw short refl in
-    tree_settled text tree (Accepted p) has (sym e ∙ ap verdict_of (resolves tree p result is answer))
+    tree_settled text tree p has (sym e ∙ ap verdict_of (resolves tree p result is answer))
 
 -- a refusal in other words
-pub refused_as : (text : List ℕ) (a b : Refusal) → ◌≡◌ {A = Result Program ProgramFault} (Err (program.Refused a)) (Err (program.Refused b)) → Settles text (Rejected a) → Settles text (Rejected b)
-refused_as text a b e h = let same : a ≡ b = cc in subst (λ why. Settles text (Rejected why)) same h
+pub refused_as : (text : List ℕ) (a b : Refusal) → ◌≡◌ {A = Result Program ProgramFault} (Err (program.Refused a)) (Err (program.Refused b)) → Judges text (Rejected a) → Judges text (Rejected b)
+refused_as text a b e h = let same : a ≡ b = cc in subst (λ why. Judges text (Rejected why)) same h
 
 -- ---- for a job
 
@@ -93,55 +93,40 @@ refused_not why p e = cc
 same_program : (p q : Program) → Accepted p ≡ Accepted q → p ≡ q
 same_program p q e = cc
 
--- what is refused by the definition of programs
-rejected_only : (j : Job) (text : List ℕ) (why : Refusal) (w : Verdict) → Settles text (Rejected why) → HasVerdict j text w → w ≡ Rejected why
-rejected_only j text why Unknown s h = absurd h
-rejected_only job.Check text why (Rejected other) s h = s.only (Rejected other) h
-rejected_only job.Check text why (Accepted p) s h = s.only (Accepted p) h
-rejected_only job.Run text why (Rejected other) s (inl h) = s.only (Rejected other) h
-rejected_only job.Run text why (Rejected other) s (inr h) = absurd (refused_not why h.program (sym (s.only (Accepted h.program) h.accepted)))
-rejected_only job.Run text why (Accepted p) s h = s.only (Accepted p) h.0
-
 rejected_has : (j : Job) (text : List ℕ) (why : Refusal) → Judges text (Rejected why) → HasVerdict j text (Rejected why)
 rejected_has job.Run text why h = inl h
 rejected_has job.Check text why h = h
 
-pub rejected_for : (j : Job) (text : List ℕ) (why : Refusal) → Settles text (Rejected why) → Decides j text (Rejected why)
-rejected_for j text why s = record { has = rejected_has j text why s.is; only = λ w h. rejected_only j text why w s h }
+pub rejected_for : (j : Job) (text : List ℕ) (why : Refusal) → Judges text (Rejected why) → Decides j text (Rejected why)
+rejected_for j text why h = record { has = rejected_has j text why h; only = tt }
 
 -- a program is accepted by `check`
-checked_only : (text : List ℕ) (p : Program) (w : Verdict) → Settles text (Accepted p) → HasVerdict job.Check text w → w ≡ Accepted p
+checked_only : (text : List ℕ) (p : Program) (w : Verdict) → Settles text p → HasVerdict job.Check text w → w ≡ Accepted p
 checked_only text p Unknown s h = absurd h
 checked_only text p (Rejected why) s h = s.only (Rejected why) h
 checked_only text p (Accepted q) s h = s.only (Accepted q) h
 
-pub accepted_checked : (text : List ℕ) (p : Program) → Settles text (Accepted p) → Decides job.Check text (Accepted p)
+pub accepted_checked : (text : List ℕ) (p : Program) → Settles text p → Decides job.Check text (Accepted p)
 accepted_checked text p s = record { has = s.is; only = λ w h. checked_only text p w s h }
 
 -- and by `run` where it can be run
 unbuilt_not : (p q : Program) → q ≡ p → is_built p ≡ true → is_built q ≡ false → ⊥
 unbuilt_not p q e b h = let k : false ≡ true = sym h ∙ ap is_built e ∙ b in cc
 
-run_only : (text : List ℕ) (p : Program) (w : Verdict) → Settles text (Accepted p) → is_built p ≡ true → HasVerdict job.Run text w → w ≡ Accepted p
+run_only : (text : List ℕ) (p : Program) (w : Verdict) → Settles text p → is_built p ≡ true → HasVerdict job.Run text w → w ≡ Accepted p
 run_only text p Unknown s b h = absurd h
 run_only text p (Rejected why) s b (inl h) = s.only (Rejected why) h
 run_only text p (Rejected why) s b (inr h) = absurd (unbuilt_not p h.program (same_program h.program p (s.only (Accepted h.program) h.accepted)) b h.unbuilt)
 run_only text p (Accepted q) s b h = s.only (Accepted q) h.0
 
-pub accepted_run : (text : List ℕ) (p : Program) → Settles text (Accepted p) → is_built p ≡ true → Decides job.Run text (Accepted p)
+pub accepted_run : (text : List ℕ) (p : Program) → Settles text p → is_built p ≡ true → Decides job.Run text (Accepted p)
 accepted_run text p s b = record { has = (s.is, b); only = λ w h. run_only text p w s b h }
 
 -- a program that can't be run so far
-not_built_only : (text : List ℕ) (p : Program) (w : Verdict) → Settles text (Accepted p) → is_built p ≡ false → HasVerdict job.Run text w → w ≡ Rejected refusal.NotBuilt
-not_built_only text p Unknown s b h = absurd h
-not_built_only text p (Rejected why) s b (inl h) = absurd (refused_not why p (s.only (Rejected why) h))
-not_built_only text p (Rejected why) s b (inr h) = ap Rejected h.is
-not_built_only text p (Accepted q) s b h = absurd (unbuilt_not q p (sym (same_program q p (s.only (Accepted q) h.0))) h.1 b)
-
-pub not_built : (text : List ℕ) (p : Program) (why : Refusal) → Settles text (Accepted p) → is_built p ≡ false → ◌≡◌ {A = Result Program ProgramFault} (Err (program.Refused refusal.NotBuilt)) (Err (program.Refused why)) → Decides job.Run text (Rejected why)
+pub not_built : (text : List ℕ) (p : Program) (why : Refusal) → Settles text p → is_built p ≡ false → ◌≡◌ {A = Result Program ProgramFault} (Err (program.Refused refusal.NotBuilt)) (Err (program.Refused why)) → Decides job.Run text (Rejected why)
 not_built text p why s b e =
-    let same : refusal.NotBuilt ≡ why = cc in
-    subst (λ x. Decides job.Run text (Rejected x)) same (record { has = inr record { program = p; accepted = s.is; unbuilt = b; is = refl }; only = λ w h. not_built_only text p w s b h })
+    let same : why ≡ refusal.NotBuilt = cc in
+    record { has = inr record { program = p; accepted = s.is; unbuilt = b; is = same }; only = tt }
 
 -- the fault that a call handed on
 pub handed : (r : Result Program ProgramFault) (x y : ProgramFault) → r ≡ Err x → r ≡ Err y → x ≡ y
