@@ -1,5 +1,4 @@
-use Rattle.std.proofs.Common.{ℕ, suc, ◌+◌, ◌-◌, ◌<◌, ◌≤◌, ◌≡◌, ◌⊎◌, inl, inr, Bool, true, false, List, [], ◌∷◌, ◌++◌, length, length-take, length-append, take, map, Option, Some, None, refl, sym, subst, ◌∙◌, ap, arith, lit≤, lit<, append_assoc, min}
-use Rattle.std.specs.Prelude.{slice_index_or}
+use Rattle.std.proofs.Common.{ℕ, ◌+◌, ◌<◌, ◌≤◌, ◌≡◌, inl, inr, Bool, List, [], ◌∷◌, ◌++◌, length, length-take, length-append, take, refl, sym, subst, ◌∙◌, ap, arith, lit≤, append_assoc}
 use Rattle.std.proofs.Math.ListN.{get_or-append}
 use Rattle.std.proofs.Math.Seq.{get_or-append_seam}
 use Rattle.std.proofs.lemmas.List.{get_or-take, length-map}
@@ -12,9 +11,9 @@ use Rattle.re_syntax.specs.declared.stop.Stop.{Stop}
 use Rattle.re_syntax.specs.declared.stop.Stop.TheVariants as stop
 use Rattle.re_syntax.specs.declared.kept.Kept.{Kept}
 use Rattle.re_syntax.specs.declared.kept.Kept.TheVariants as kept
-use Rattle.re_syntax.specs.Grammar.{marks_of, mark_at, Expression, Reads}
+use Rattle.re_syntax.specs.Grammar.{marks_of, mark_at}
 use Rattle.re_syntax.specs.Places.{Agrees, IsDeep, open_limit}
-use Rattle.re_syntax.specs.Steps.{Language, text, Holds, IsEnough, IsRoomy, nothing, joins, Cause, Unfit, Beyond, fitting, IsRefusedUnder, Exactly, Refusal, Accepts, Finds, Stands, Stops, Misses, Never, Then, One, Done, APhrase, AnExpression, DeepAt}
+use Rattle.re_syntax.specs.Steps.{Language, text, Holds, IsRoomy, nothing, joins, Cause, Unfit, Beyond, fitting, IsRefusedUnder, Refusal, Accepts, Finds, Stands, Stops, Misses, Never, Then, AnExpression, DeepAt}
 use Rattle.re_syntax.proofs.Steps.{Completes, no_true, after_nothing}
 use Rattle.re_syntax.proofs.Tokens.{Stage, misses_in}
 
@@ -35,9 +34,10 @@ same_before marks ms count k h below =
 
 pub patched : (marks ms : List Mark) (count : ℕ) → count ≤ length marks → Agrees count (mark_at marks) (mark_at (take count marks ++ ms)) × Holds (mark_at (take count marks ++ ms)) count ms (count + length ms)
 patched marks ms count h =
-    let long : length (take count marks) ≡ count = rw length-take (omega arith) in
-    (λ k below. same_before marks ms count k h below,
-     subst (λ (q : ℕ). Holds (mark_at (take count marks ++ ms)) q ms (count + length ms)) long (holds_behind (take count marks) ms (count + length ms) (omega (arith, long))))
+    let long : length (take count marks) ≡ count = rw length-take (omega arith) in (
+      λ k below. same_before marks ms count k h below,
+      subst (λ (q : ℕ). Holds (mark_at (take count marks ++ ms)) q ms (count + length ms)) long (holds_behind (take count marks) ms (count + length ms) (omega (arith, long))),
+    )
 
 -- a refused expression didn't end
 
@@ -62,8 +62,8 @@ accepted_not_deep tokens e i n a shallow d =
     let x = a.exact.read open_limit (λ _. lit≤ tt) (text tokens) (λ _ _. refl) in
     let late : n ≤ d.behind = d.whole open_limit (text tokens) e n (λ _ _. refl) x in
     elim (a.exact.only open_limit (text tokens) d.expression d.behind (λ _ _. refl) d.read) [
-      inl same ↦ (let deep : 64 < raw_depth d.expression = d.deep in let is : raw_depth d.expression ≡ raw_depth e = ap raw_depth same.0 in omega arith)
-    | inr early ↦ omega (arith, early.1)
+      | inl same ↦ (let deep : 64 < raw_depth d.expression = d.deep in let is : raw_depth d.expression ≡ raw_depth e = ap raw_depth same.0 in omega arith)
+      | inr early ↦ omega (arith, early.1)
     ]
 
 pub deep_at : (tokens : List Token) (e : RawExpr) (i n : ℕ) → Accepts (AnExpression 1) (joins 0) 1 tokens e i n → 64 < raw_depth e → IsDeep (text tokens) i
@@ -84,8 +84,8 @@ whole_stops tokens i (stop.TooDeep j) r = absurd r.told.0
 -- a step that reads no expression is refused where something deep would have to be read
 
 pub misses_deep : {A V : Type 0} {X : Language V} {goes_on : Mark → Bool} {Deep : ℕ → Type 0} {tokens : List Token} {ahead i k : ℕ} {Y : Language A} {Z : A → Language V} (s : Stop)
-  → Stage X goes_on tokens ahead i k (Then Y Z) → Misses Y nothing tokens k s → ahead ≤ 1 → ((a : A) → Completes (Z a))
-  → ((n : ℕ) → Deep n → (v : A) × (m : ℕ) × Y (text tokens) open_limit v k m) → Stops X goes_on Deep tokens i s
+    → Stage X goes_on tokens ahead i k (Then Y Z) → Misses Y nothing tokens k s → ahead ≤ 1 → ((a : A) → Completes (Z a))
+    → ((n : ℕ) → Deep n → (v : A) × (m : ℕ) × Y (text tokens) open_limit v k m) → Stops X goes_on Deep tokens i s
 misses_deep stop.Memory g r h c reads = record { told = tt; within = tt }
 misses_deep {A} {V} {X} {goes_on} {Deep} {tokens} {ahead} {i} {k} {Y} {Z} (stop.Unexpected j) g r h c reads =
     let m = misses_in (stop.Unexpected j) g r h after_nothing c in

@@ -1,5 +1,4 @@
-use Rattle.std.proofs.Common.{ℕ, suc, ◌+◌, ◌^◌, ◌<◌, ◌≤◌, ◌≡◌, ◌&&◌, Bool, true, false, List, [], ◌∷◌, ◌++◌, length, ℤ, pos, negsuc, refl, sym, subst, ◌∙◌, ap, ap₂, arith, lit≤, nat_le, nat_lt}
-use Rattle.std.specs.List.{list_all}
+use Rattle.std.proofs.Common.{ℕ, ◌+◌, ◌^◌, ◌<◌, ◌≤◌, ◌≡◌, ◌&&◌, Bool, true, pos, refl, sym, ◌∙◌, ap, arith, nat_le}
 use Rattle.std.specs.Prelude.{◌-ℤ◌}
 use Rattle.std.proofs.lemmas.Int.{ints}
 use Rattle.re_terms.specs.Arithmetic.{is_word_number}
@@ -7,16 +6,13 @@ use Rattle.re_terms.specs.Listed.{Listed}
 use Rattle.re_terms.specs.Trees.{is_name_text, is_fault_code, is_region, is_literal, expr_step, is_expr, is_whole_expr, is_body, is_declaration, raw_depth}
 use Rattle.re_terms.specs.declared.token.Mark.{Mark}
 use Rattle.re_terms.specs.declared.token.Mark.TheVariants as mark
-use Rattle.re_terms.specs.declared.word.Kind.{Kind}
 use Rattle.re_terms.specs.declared.expr.Op.{Op}
 use Rattle.re_terms.specs.declared.raw_expr.RawLit.{RawLit}
-use Rattle.re_terms.specs.declared.raw_expr.RawLit.TheVariants as literal
 use Rattle.re_terms.specs.declared.raw_expr.RawExpr.{RawExpr, fold-roll-RawExpr}
 use Rattle.re_terms.specs.declared.raw_expr.RawExpr.TheVariants as expr
 use Rattle.re_terms.specs.declared.raw.RawBody.{RawBody}
-use Rattle.re_terms.specs.declared.raw.RawBody.TheVariants as body
 use Rattle.re_terms.specs.declared.raw.RawDecl.{RawDecl}
-use Rattle.re_syntax.specs.Grammar.{Literal, number, negative, truth, falsity, name, Region, unwritten, written, Phrase, Expression, Level, Further, Primary, Reads, condition, plain, operands, primary, last, again, once, literal_, arg, own, brackets, negation, recovery, fault, size, membership, Source, changed, mapped, filtered, either, Content, device, symbol, var, event, derived, signal, fold, counter, set, register, Declaration}
+use Rattle.re_syntax.specs.Grammar.{Literal, number, negative, truth, falsity, name, Region, unwritten, written, Phrase, Expression, Further, Reads, condition, plain, operands, primary, last, again, once, literal_, arg, own, brackets, negation, recovery, fault, size, membership, Source, changed, mapped, filtered, either, Content, device, symbol, var, event, derived, signal, fold, counter, set, register, Declaration}
 use Rattle.re_syntax.specs.Programs.{IsShallow}
 
 -- the names of a text are names

@@ -1,24 +1,21 @@
-use Rattle.std.proofs.Common.{ℕ, zero, suc, ◌+◌, ◌-◌, ◌<◌, ◌≤◌, ◌≡◌, ◌⊎◌, inl, inr, Bool, true, false, ◌||◌, List, [], ◌∷◌, length, Option, Some, None, refl, sym, subst, ◌∙◌, ap, arith, lit≤, lit<}
+use Rattle.std.proofs.Common.{ℕ, zero, suc, ◌+◌, ◌<◌, ◌≡◌, inl, inr, Bool, true, false, ◌||◌, List, [], ◌∷◌, length, Some, refl, sym, subst, ◌∙◌, ap, arith, lit≤, lit<}
 use Rattle.re_terms.specs.Listed.{Listed, plain}
-use Rattle.re_terms.specs.declared.reserved.TheConstants.{DEVICE, SYMBOL, VAR, EVENT, SIGNAL, FOLD, COUNTER, SET, REGISTER, CHANGED, MAP, FILTER, EITHER, ON, DO, IN}
-use Rattle.re_terms.specs.declared.signs.TheConstants.{SEMICOLON, COLON, EQUALS, COMMA, OPEN, CLOSE}
+use Rattle.re_terms.specs.declared.reserved.TheConstants.{DEVICE, VAR, EVENT, SIGNAL, FOLD, SET, REGISTER, CHANGED, MAP, FILTER, EITHER, ON, DO, IN}
+use Rattle.re_terms.specs.declared.signs.TheConstants.{SEMICOLON, EQUALS, COMMA, OPEN, CLOSE}
 use Rattle.re_terms.specs.declared.token.Token.{Token}
 use Rattle.re_terms.specs.declared.token.Mark.{Mark}
 use Rattle.re_terms.specs.declared.token.Mark.TheVariants as mark
 use Rattle.re_terms.specs.declared.word.Kind.{Kind}
-use Rattle.re_terms.specs.declared.word.Kind.TheVariants as kind
 use Rattle.re_terms.specs.declared.raw_expr.RawLit.{RawLit}
-use Rattle.re_terms.specs.declared.raw_expr.RawLit.TheVariants as literal
 use Rattle.re_terms.specs.declared.raw_expr.RawExpr.{RawExpr}
 use Rattle.re_terms.specs.declared.raw.RawBody.{RawBody}
 use Rattle.re_terms.specs.declared.raw.RawBody.TheVariants as body
-use Rattle.re_terms.specs.declared.raw.RawDecl.{RawDecl}
 use Rattle.re_syntax.specs.declared.stop.Stop.TheVariants as stop
 use Rattle.re_syntax.specs.Grammar.{kind_of, Literal, Region, unwritten, written, Source, changed, mapped, filtered, either, Content, device, symbol, var, event, derived, signal, fold, counter, set, register, Declaration}
 use Rattle.re_syntax.specs.Places as places
 use Rattle.re_syntax.specs.Places.{SourceHead, ContentHead, Head, IsDeep, open_limit}
-use Rattle.re_syntax.specs.Steps.{Language, text, Holds, IsEnough, nothing, joins, extends, is_region_word, Unfit, Refusal, Accepts, Stops, Misses, Then, One, Done, Single, Named, AKind, ALiteral, ARegion, ASource, AContent, ADeclaration, FirstName, OnlyName, KindPart, StartPart, DeepAt, DeepSource, DeepContent, DeepDeclaration}
-use Rattle.re_syntax.proofs.Steps.{SoFar, Completes, Follows, Includes, no_true, so_next, one_completes, done_completes, then_completes, after_one}
+use Rattle.re_syntax.specs.Steps.{Language, text, Holds, nothing, joins, extends, is_region_word, Accepts, Stops, Then, Done, Single, Named, ARegion, ASource, AContent, ADeclaration, FirstName, KindPart, StartPart, DeepAt, DeepSource, DeepContent, DeepDeclaration}
+use Rattle.re_syntax.proofs.Steps.{Completes, Follows, Includes, no_true, so_next, done_completes, then_completes, after_one}
 use Rattle.re_syntax.proofs.Tokens.{Stage, one_longer, not_joined}
 use Rattle.re_syntax.proofs.Rules.{clash, var_rest, var_builds, event_rest, event_builds, signal_rest, signal_builds, fold_rest, fold_builds, set_rest, set_builds, register_rest, register_builds}
 use Rattle.re_syntax.proofs.Leaves.{mark_completes, name_completes, kind_completes, literal_completes, region_completes}
@@ -30,7 +27,7 @@ reading {tokens = tokens} a = a.exact.read open_limit (λ _. lit≤ tt) (text to
 
 -- one phrase more, behind a mark that was seen already
 pub next_far : {A V : Type 0} {X : Language V} {goes_on ends : Mark → Bool} {tokens : List Token} {i k k' : ℕ} {Y : Language A} {Z : A → Language V} {a : A}
-  → Stage X goes_on tokens 1 i k (Then Y Z) → Accepts Y ends 0 tokens a k k' → k < k' → Follows ends Z goes_on → Stage X goes_on tokens 0 i k' (Z a)
+    → Stage X goes_on tokens 1 i k (Then Y Z) → Accepts Y ends 0 tokens a k k' → k < k' → Follows ends Z goes_on → Stage X goes_on tokens 0 i k' (Z a)
 next_far {A} {V} {X} {goes_on} {ends} {tokens} {i} {k} {k'} {Y} {Z} {a} s e longer f =
     record { so_far = so_next X goes_on (text tokens) (k + 1) (k' + 0) i k k' Y Z ends a s.so_far e.exact (omega arith) f }
 
@@ -40,14 +37,28 @@ kind_longer tokens k i n a = let r = reading a in omega (arith, r.first.next, r.
 -- sources
 
 pub head_of_map : {at : ℕ → Mark} {i s : ℕ} → at i ≡ mark.Reserved MAP → SourceHead at i s → (t : Listed ℕ) × FirstName at open_limit t (i + 1) s
-head_of_map {at} {i} h (places.mapped {t = t} _ a b c) = (t, record { value = tt; middle = i + 2; first = record { fits = a; next = omega arith };
-    second = record { value = t; middle = i + 3; first = record { fits = b; next = omega arith }; second = record { value = tt; middle = i + 4; first = record { fits = c; next = omega arith }; second = record { is = refl; stays = refl } } } })
+head_of_map {at} {i} h (places.mapped {t = t} _ a b c) = (
+  t,
+  record {
+    value = tt;
+    middle = i + 2;
+    first = record { fits = a; next = omega arith };
+    second = record { value = t; middle = i + 3; first = record { fits = b; next = omega arith }; second = record { value = tt; middle = i + 4; first = record { fits = c; next = omega arith }; second = record { is = refl; stays = refl } } };
+  },
+)
 head_of_map h (places.filtered g _ _ _) = absurd (omega (arith, clash h g))
 
 pub head_of_filter : {at : ℕ → Mark} {i s : ℕ} → at i ≡ mark.Reserved FILTER → SourceHead at i s → (t : Listed ℕ) × FirstName at open_limit t (i + 1) s
 head_of_filter h (places.mapped g _ _ _) = absurd (omega (arith, clash h g))
-head_of_filter {at} {i} h (places.filtered {t = t} _ a b c) = (t, record { value = tt; middle = i + 2; first = record { fits = a; next = omega arith };
-    second = record { value = t; middle = i + 3; first = record { fits = b; next = omega arith }; second = record { value = tt; middle = i + 4; first = record { fits = c; next = omega arith }; second = record { is = refl; stays = refl } } } })
+head_of_filter {at} {i} h (places.filtered {t = t} _ a b c) = (
+  t,
+  record {
+    value = tt;
+    middle = i + 2;
+    first = record { fits = a; next = omega arith };
+    second = record { value = t; middle = i + 3; first = record { fits = b; next = omega arith }; second = record { value = tt; middle = i + 4; first = record { fits = c; next = omega arith }; second = record { is = refl; stays = refl } } };
+  },
+)
 
 pub no_head : {at : ℕ → Mark} {i s : ℕ} → (at i ≡ mark.Reserved MAP → ⊥) → (at i ≡ mark.Reserved FILTER → ⊥) → SourceHead at i s → ⊥
 no_head a b (places.mapped g _ _ _) = a g
@@ -93,7 +104,7 @@ filter_down tokens t i n h r j d =
     (e, subst (λ (q : ℕ). IsDeep (text tokens) q) e d.1)
 
 no_source : (other : ℕ → Mark) (limit : ℕ → ℕ) (b : RawBody) (i n : ℕ) → (other i ≡ mark.Reserved CHANGED → ⊥) → (other i ≡ mark.Reserved MAP → ⊥) → (other i ≡ mark.Reserved FILTER → ⊥) → (other i ≡ mark.Reserved EITHER → ⊥)
-  → Source other limit b i n → ⊥
+    → Source other limit b i n → ⊥
 no_source other limit _ _ _ a b c d (changed g _ _ _) = a g
 no_source other limit _ _ _ a b c d (mapped g _ _ _ _ _) = b g
 no_source other limit _ _ _ a b c d (filtered g _ _ _ _ _) = c g
@@ -115,18 +126,25 @@ unfolding changed_marks
 source_completes = record { value = body.Changed (plain []); ahead = changed_marks; whole = λ limit other k n room h. changed_holds other limit k n h }
 
 pub source_refused : (tokens : List Token) (i : ℕ) → i < length tokens → (text tokens i ≡ mark.Reserved CHANGED → ⊥) → (text tokens i ≡ mark.Reserved MAP → ⊥) → (text tokens i ≡ mark.Reserved FILTER → ⊥) → (text tokens i ≡ mark.Reserved EITHER → ⊥)
-  → Stops ASource nothing (DeepSource tokens i) tokens i (stop.Unexpected i)
+    → Stops ASource nothing (DeepSource tokens i) tokens i (stop.Unexpected i)
 unfolding changed_marks
-source_refused tokens i inside a b c d = record { told = (record {
-    reached = omega arith;
-    value = body.Changed (plain []);
-    ahead = changed_marks;
-    some = lit< tt;
-    begun = λ limit roomy other n agrees holds. changed_holds other limit i n holds;
-    ended = λ limit under other w n agrees x.
-      let s : text tokens i ≡ other i = sym (agrees i (omega arith)) in
-      absurd (no_source other limit w i n (λ g. a (s ∙ g)) (λ g. b (s ∙ g)) (λ g. c (s ∙ g)) (λ g. d (s ∙ g)) x);
-  }, inside, λ s deep. no_head b c deep.0); within = tt }
+source_refused tokens i inside a b c d = record {
+  told = (
+    record {
+      reached = omega arith;
+      value = body.Changed (plain []);
+      ahead = changed_marks;
+      some = lit< tt;
+      begun = λ limit roomy other n agrees holds. changed_holds other limit i n holds;
+      ended = λ limit under other w n agrees x.
+          let s : text tokens i ≡ other i = sym (agrees i (omega arith)) in
+          absurd (no_source other limit w i n (λ g. a (s ∙ g)) (λ g. b (s ∙ g)) (λ g. c (s ∙ g)) (λ g. d (s ∙ g)) x);
+    },
+    inside,
+    λ s deep. no_head b c deep.0,
+  );
+  within = tt;
+}
 
 -- contents
 
@@ -182,17 +200,27 @@ pub fold_head : {at : ℕ → Mark} {i s : ℕ} → ContentHead at FOLD i s → 
 fold_head (places.derived g _ _) = absurd (omega (arith, g))
 fold_head (places.signal g _) = absurd (omega (arith, g))
 fold_head {at} {i} (places.fold {j = j} {t = t} {k = k} {v = v} _ a b c l o n d) = record {
-  kind = k; start = v; name = t; behind = j;
-  part = record { value = k; middle = i + 2; first = record { value = tt; middle = i + 1; first = record { fits = a; next = refl }; second = record { fits = b; next = omega arith } };
-    second = record { value = tt; middle = i + 3; first = record { fits = c; next = omega arith }; second = record { value = v; middle = j; first = l; second = record { is = refl; stays = refl } } } };
-  on = o; named = n; step = d; ends = refl;
+  kind = k;
+  start = v;
+  name = t;
+  behind = j;
+  part = record {
+    value = k;
+    middle = i + 2;
+    first = record { value = tt; middle = i + 1; first = record { fits = a; next = refl }; second = record { fits = b; next = omega arith } };
+    second = record { value = tt; middle = i + 3; first = record { fits = c; next = omega arith }; second = record { value = v; middle = j; first = l; second = record { is = refl; stays = refl } } };
+  };
+  on = o;
+  named = n;
+  step = d;
+  ends = refl;
 }
 
 moved_kind : (at : ℕ → Mark) (p q : ℕ) (k : Kind) → kind_of (at p) ≡ Some k → p ≡ q → kind_of (at q) ≡ Some k
 moved_kind at p q k h e = subst (λ (r : ℕ). kind_of (at r) ≡ Some k) e h
 
 pub fold_made : {at : ℕ → Mark} {i behind : ℕ} (v : Kind × RawLit) (t : Listed ℕ) → StartPart at open_limit v i behind → at behind ≡ mark.Reserved ON → at (behind + 1) ≡ mark.Name t → at (behind + 2) ≡ mark.Reserved DO
-  → ContentHead at FOLD i (behind + 3)
+    → ContentHead at FOLD i (behind + 3)
 fold_made {at} {i} {behind} v t r o n d =
     let p = r.first in let q = r.second in let l = q.second in
     let e1 : p.middle ≡ i + 1 = p.first.next in
@@ -207,18 +235,19 @@ pub fold_same : (tokens : List Token) (v : Kind × RawLit) (i n s : ℕ) → Acc
 fold_same tokens v i n s a h = elim (a.exact.only open_limit (text tokens) (h.kind, h.start) h.behind (λ _ _. refl) h.part) [ inl same ↦ same.1 | inr early ↦ absurd (no_true early.0) ]
 
 pub fold_up : (tokens : List Token) (v : Kind × RawLit) (t : Listed ℕ) (i n p q r : ℕ) → Accepts StartPart nothing 0 tokens v i n → Accepts (Single (mark.Reserved ON)) nothing 0 tokens tt n p → Accepts Named nothing 0 tokens t p q
-  → Accepts (Single (mark.Reserved DO)) nothing 0 tokens tt q r → (j : ℕ) → DeepAt tokens r j → DeepContent tokens FOLD i j
+    → Accepts (Single (mark.Reserved DO)) nothing 0 tokens tt q r → (j : ℕ) → DeepAt tokens r j → DeepContent tokens FOLD i j
 fold_up tokens v t i n p q r a b c d j deep =
     let rb = reading b in let rc = reading c in let rd = reading d in
     let e1 : p ≡ n + 1 = rb.next in
     let e2 : q ≡ n + 2 = omega (arith, e1, rc.next) in
-    let e3 : n + 3 ≡ j = omega (arith, e2, rd.next, deep.0) in
-    (subst (λ (k : ℕ). ContentHead (text tokens) FOLD i k) e3
-      (fold_made v t (reading a) rb.fits (moved_mark (text tokens) p (n + 1) (mark.Name t) rc.fits e1) (moved_mark (text tokens) q (n + 2) (mark.Reserved DO) rd.fits e2)),
-     subst (λ (k : ℕ). IsDeep (text tokens) k) (sym deep.0) deep.1)
+    let e3 : n + 3 ≡ j = omega (arith, e2, rd.next, deep.0) in (
+      subst (λ (k : ℕ). ContentHead (text tokens) FOLD i k) e3
+          (fold_made v t (reading a) rb.fits (moved_mark (text tokens) p (n + 1) (mark.Name t) rc.fits e1) (moved_mark (text tokens) q (n + 2) (mark.Reserved DO) rd.fits e2)),
+      subst (λ (k : ℕ). IsDeep (text tokens) k) (sym deep.0) deep.1,
+    )
 
 pub fold_down : (tokens : List Token) (v : Kind × RawLit) (t : Listed ℕ) (i n p q r : ℕ) → Accepts StartPart nothing 0 tokens v i n → Accepts (Single (mark.Reserved ON)) nothing 0 tokens tt n p → Accepts Named nothing 0 tokens t p q
-  → Accepts (Single (mark.Reserved DO)) nothing 0 tokens tt q r → (j : ℕ) → DeepContent tokens FOLD i j → DeepAt tokens r j
+    → Accepts (Single (mark.Reserved DO)) nothing 0 tokens tt q r → (j : ℕ) → DeepContent tokens FOLD i j → DeepAt tokens r j
 fold_down tokens v t i n p q r a b c d j deep =
     let h = fold_head deep.0 in
     let e0 : h.behind ≡ n = fold_same tokens v i n j a h in
@@ -229,18 +258,18 @@ pub fold_reads_start : (tokens : List Token) (i s : ℕ) → DeepContent tokens 
 fold_reads_start tokens i s d = let h = fold_head d.0 in ((h.kind, h.start), h.behind, h.part)
 
 pub fold_reads_on : (tokens : List Token) (v : Kind × RawLit) (i n : ℕ) → Accepts StartPart nothing 0 tokens v i n → (s : ℕ) → DeepContent tokens FOLD i s
-  → (u : Unit {0}) × (m : ℕ) × Single (mark.Reserved ON) (text tokens) open_limit u n m
+    → (u : Unit {0}) × (m : ℕ) × Single (mark.Reserved ON) (text tokens) open_limit u n m
 fold_reads_on tokens v i n a s d = let h = fold_head d.0 in
     (tt, n + 1, record { fits = moved_mark (text tokens) h.behind n (mark.Reserved ON) h.on (fold_same tokens v i n s a h); next = refl })
 
 pub fold_reads_name : (tokens : List Token) (v : Kind × RawLit) (i n p : ℕ) → Accepts StartPart nothing 0 tokens v i n → Accepts (Single (mark.Reserved ON)) nothing 0 tokens tt n p → (s : ℕ) → DeepContent tokens FOLD i s
-  → (t : Listed ℕ) × (m : ℕ) × Named (text tokens) open_limit t p m
+    → (t : Listed ℕ) × (m : ℕ) × Named (text tokens) open_limit t p m
 fold_reads_name tokens v i n p a b s d = let h = fold_head d.0 in
     let e : h.behind + 1 ≡ p = omega (arith, fold_same tokens v i n s a h, one_longer b) in
     (h.name, p + 1, record { fits = moved_mark (text tokens) (h.behind + 1) p (mark.Name h.name) h.named e; next = refl })
 
 pub fold_reads_do : (tokens : List Token) (v : Kind × RawLit) (t : Listed ℕ) (i n p q : ℕ) → Accepts StartPart nothing 0 tokens v i n → Accepts (Single (mark.Reserved ON)) nothing 0 tokens tt n p → Accepts Named nothing 0 tokens t p q
-  → (s : ℕ) → DeepContent tokens FOLD i s → (u : Unit {0}) × (m : ℕ) × Single (mark.Reserved DO) (text tokens) open_limit u q m
+    → (s : ℕ) → DeepContent tokens FOLD i s → (u : Unit {0}) × (m : ℕ) × Single (mark.Reserved DO) (text tokens) open_limit u q m
 fold_reads_do tokens v t i n p q a b c s d = let h = fold_head d.0 in
     let e : h.behind + 2 ≡ q = omega (arith, fold_same tokens v i n s a h, one_longer b, one_longer c) in
     (tt, q + 1, record { fits = moved_mark (text tokens) (h.behind + 2) q (mark.Reserved DO) h.step e; next = refl })
@@ -301,19 +330,33 @@ device_marks = mark.Reserved DEVICE ∷ mark.Name (plain []) ∷ mark.Sign SEMIC
 
 device_holds : (other : ℕ → Mark) (limit : ℕ → ℕ) (i n : ℕ) → Holds other i device_marks n → Declaration other limit (record { name = plain []; body = body.Device }) i n
 unfolding device_marks
-device_holds other limit i n h = record { word = DEVICE; last = i + 2; begins = h.0; named = h.1.0; content = device refl;
-  ends = moved_mark other (i + 1 + 1) (i + 2) (mark.Sign SEMICOLON) h.1.1.0 (omega arith); next = omega (arith, h.1.1.1) }
+device_holds other limit i n h = record {
+  word = DEVICE;
+  last = i + 2;
+  begins = h.0;
+  named = h.1.0;
+  content = device refl;
+  ends = moved_mark other (i + 1 + 1) (i + 2) (mark.Sign SEMICOLON) h.1.1.0 (omega arith);
+  next = omega (arith, h.1.1.1);
+}
 
 pub declaration_refused : (tokens : List Token) (i : ℕ) → i < length tokens → ((w : ℕ) → text tokens i ≡ mark.Reserved w → w < 9 → ⊥) → Stops ADeclaration nothing (DeepDeclaration tokens i) tokens i (stop.Unexpected i)
 unfolding device_marks
-declaration_refused tokens i inside none = record { told = (record {
-    reached = omega arith;
-    value = record { name = plain []; body = body.Device };
-    ahead = device_marks;
-    some = lit< tt;
-    begun = λ limit roomy other n agrees holds. device_holds other limit i n holds;
-    ended = λ limit under other w n agrees x. absurd (none x.word (sym (agrees i (omega arith)) ∙ x.begins) (declared_word x.content));
-  }, inside, λ s d. none d.0.word d.0.begins (head_word d.0.content)); within = tt }
+declaration_refused tokens i inside none = record {
+  told = (
+    record {
+      reached = omega arith;
+      value = record { name = plain []; body = body.Device };
+      ahead = device_marks;
+      some = lit< tt;
+      begun = λ limit roomy other n agrees holds. device_holds other limit i n holds;
+      ended = λ limit under other w n agrees x. absurd (none x.word (sym (agrees i (omega arith)) ∙ x.begins) (declared_word x.content));
+    },
+    inside,
+    λ s d. none d.0.word d.0.begins (head_word d.0.content),
+  );
+  within = tt;
+}
 
 pub declaration_reads : (tokens : List Token) (i n : ℕ) → DeepDeclaration tokens i n → (t : Listed ℕ) × (m : ℕ) × Named (text tokens) open_limit t (i + 1) m
 declaration_reads tokens i n d = (d.0.name, i + 1 + 1, record { fits = d.0.named; next = refl })

@@ -1,4 +1,4 @@
-use Rattle.std.proofs.Common.{ℕ, suc, ◌+◌, ◌^◌, ◌<◌, ◌≤◌, ◌≡◌, ◌≢◌, ◌⊎◌, inl, inr, Bool, true, false, not, List, [], ◌∷◌, length, Option, Some, None, ℤ, pos, refl, sym, subst, ◌∙◌, ap, arith, lit≤, lit<}
+use Rattle.std.proofs.Common.{ℕ, ◌+◌, ◌^◌, ◌<◌, ◌≤◌, ◌≡◌, ◌≢◌, ◌⊎◌, inl, inr, Bool, true, false, List, [], ◌∷◌, length, Option, Some, pos, refl, sym, subst, ◌∙◌, ap, arith, lit≤, lit<}
 use Rattle.std.specs.Prelude.{◌-ℤ◌}
 use Rattle.re_terms.specs.Listed.{Listed, plain}
 use Rattle.re_terms.specs.declared.reserved.TheConstants.{IN, TRUE, FALSE, INT, BOOL, SYM, NOT, RECOVER, HAS, FAULT, SIZE, ARG, SELF}
@@ -14,10 +14,10 @@ use Rattle.re_terms.specs.declared.raw_expr.RawExpr.{RawExpr}
 use Rattle.re_terms.specs.declared.raw_expr.RawExpr.TheVariants as expr
 use Rattle.re_syntax.specs.declared.stop.Stop.TheVariants as stop
 use Rattle.re_syntax.specs.Grammar.{kind_of, Literal, number, negative, truth, falsity, name, Region, unwritten, written, Primary, Reads, literal_, arg, own, brackets, negation, recovery, fault, size, membership}
-use Rattle.re_syntax.specs.Steps.{Language, text, IsEnough, nothing, is_region_word, EndsLast, Accepts, Misses, Unfit, Refusal, Then, One, Done, Single, Named, AKind, FaultCode, ALiteral, ARegion, APhrase, FirstName, OnlyName, KindPart, StartPart}
-use Rattle.re_syntax.proofs.Steps.{Completes, one_completes, done_completes, then_completes, no_true, so_next, after_nothing}
+use Rattle.re_syntax.specs.Steps.{Language, text, nothing, is_region_word, EndsLast, Accepts, Misses, Then, Done, Single, Named, AKind, FaultCode, ALiteral, ARegion, APhrase, FirstName, OnlyName, KindPart, StartPart}
+use Rattle.re_syntax.proofs.Steps.{Completes, one_completes, so_next, after_nothing}
 use Rattle.re_syntax.proofs.Tokens.{Stage, one_accepts, one_misses}
-use Rattle.re_syntax.proofs.Rules.{clash, same_name, same_number, form, stage_at, moved}
+use Rattle.re_syntax.proofs.Rules.{clash, same_name, same_number, form, moved}
 
 pub mark_completes : (m : Mark) → Completes (Single m)
 mark_completes m = one_completes tt m refl
@@ -33,8 +33,11 @@ pub code_completes : Completes FaultCode
 code_completes = one_completes 100 (mark.Number 100) (refl, lit≤ tt, lit≤ tt)
 
 pub literal_completes : Completes ALiteral
-literal_completes = record { value = literal.Bool true; ahead = mark.Reserved TRUE ∷ [];
-  whole = λ limit other k n room h. subst (λ (q : ℕ). Literal other (literal.Bool true) k q) (sym h.1) (truth h.0) }
+literal_completes = record {
+  value = literal.Bool true;
+  ahead = mark.Reserved TRUE ∷ [];
+  whole = λ limit other k n room h. subst (λ (q : ℕ). Literal other (literal.Bool true) k q) (sym h.1) (truth h.0);
+}
 
 pub region_completes : Completes ARegion
 region_completes = record { value = 1; ahead = []; whole = λ limit other k n room h. subst (λ (q : ℕ). Region other 1 k q) (sym h) unwritten }
@@ -79,8 +82,8 @@ kind_misses tokens i inside a b c = one_misses (λ m k. kind_of m ≡ Some k) to
 -- literals
 
 one_literal : (tokens : List Token) (i : ℕ) (v : RawLit) (m : Mark) → i < length tokens → EndsLast tokens → text tokens i ≡ m → (mark.End ≡ m → ⊥)
-  → ((other : ℕ → Mark) → other i ≡ m → Literal other v i (i + 1))
-  → ((other : ℕ → Mark) (w : RawLit) (n : ℕ) → other i ≡ m → Literal other w i n → (w ≡ v) × (n ≡ i + 1)) → Accepts ALiteral nothing 0 tokens v i (i + 1)
+    → ((other : ℕ → Mark) → other i ≡ m → Literal other v i (i + 1))
+    → ((other : ℕ → Mark) (w : RawLit) (n : ℕ) → other i ≡ m → Literal other w i n → (w ≡ v) × (n ≡ i + 1)) → Accepts ALiteral nothing 0 tokens v i (i + 1)
 one_literal tokens i v m inside ends h no_end build only = record {
   exact = record {
     forward = omega arith;
@@ -141,7 +144,7 @@ pub name_accepts : (tokens : List Token) (i : ℕ) (t : Listed ℕ) → i < leng
 name_accepts tokens i t inside ends h = one_literal tokens i (literal.Name t) (mark.Name t) inside ends h (no_end (lit< tt)) (λ other e. name e) (λ other w n e x. name_only t other w i n e x)
 
 pub negative_accepts : (tokens : List Token) (i k : ℕ) → i + 1 < length tokens → EndsLast tokens → text tokens i ≡ mark.Sign MINUS → text tokens (i + 1) ≡ mark.Number k → k ≤ 2 ^ 63
-  → Accepts ALiteral nothing 0 tokens (literal.Int (pos 0 -ℤ pos k)) i (i + 2)
+    → Accepts ALiteral nothing 0 tokens (literal.Int (pos 0 -ℤ pos k)) i (i + 2)
 negative_accepts tokens i k inside ends h f small = record {
   exact = record {
     forward = omega arith;
@@ -159,18 +162,23 @@ negative_none other _ _ _ h f (falsity g) = omega (arith, clash h g)
 negative_none other _ _ _ h f (name g) = omega (arith, clash h g)
 
 pub negative_misses : (tokens : List Token) (i : ℕ) → i + 1 < length tokens → text tokens i ≡ mark.Sign MINUS → ((k : ℕ) → text tokens (i + 1) ≡ mark.Number k → k ≤ 2 ^ 63 → ⊥)
-  → Misses ALiteral nothing tokens i (stop.Unexpected (i + 1))
-negative_misses tokens i inside h none = record { told = (record {
-    reached = omega arith;
-    value = literal.Int (pos 0 -ℤ pos 0);
-    ahead = mark.Number 0 ∷ [];
-    some = lit< tt;
-    begun = λ limit roomy other n agrees holds. subst (λ (q : ℕ). Literal other (literal.Int (pos 0 -ℤ pos 0)) i q) (let e : i + 2 ≡ n = omega (arith, holds.1) in e) (negative (agrees i (omega arith) ∙ h) holds.0 (lit≤ tt));
-    ended = λ limit under other w n agrees x. absurd (negative_none other w i n (agrees i (omega arith) ∙ h) (λ k e b. none k (sym (agrees (i + 1) (omega arith)) ∙ e) b) x);
-  }, inside) }
+    → Misses ALiteral nothing tokens i (stop.Unexpected (i + 1))
+negative_misses tokens i inside h none = record {
+  told = (
+    record {
+      reached = omega arith;
+      value = literal.Int (pos 0 -ℤ pos 0);
+      ahead = mark.Number 0 ∷ [];
+      some = lit< tt;
+      begun = λ limit roomy other n agrees holds. subst (λ (q : ℕ). Literal other (literal.Int (pos 0 -ℤ pos 0)) i q) (let e : i + 2 ≡ n = omega (arith, holds.1) in e) (negative (agrees i (omega arith) ∙ h) holds.0 (lit≤ tt));
+      ended = λ limit under other w n agrees x. absurd (negative_none other w i n (agrees i (omega arith) ∙ h) (λ k e b. none k (sym (agrees (i + 1) (omega arith)) ∙ e) b) x);
+    },
+    inside,
+  );
+}
 
 literal_none : (other : ℕ → Mark) (w : RawLit) (i n : ℕ) → (other i ≡ mark.Sign MINUS → ⊥) → (other i ≡ mark.Reserved TRUE → ⊥) → (other i ≡ mark.Reserved FALSE → ⊥)
-  → ((t : Listed ℕ) → other i ≡ mark.Name t → ⊥) → ((k : ℕ) → other i ≡ mark.Number k → k < 2 ^ 63 → ⊥) → Literal other w i n → ⊥
+    → ((t : Listed ℕ) → other i ≡ mark.Name t → ⊥) → ((k : ℕ) → other i ≡ mark.Number k → k < 2 ^ 63 → ⊥) → Literal other w i n → ⊥
 literal_none other _ _ _ a b c d e (number g s) = e _ g s
 literal_none other _ _ _ a b c d e (negative g _ _) = a g
 literal_none other _ _ _ a b c d e (truth g) = b g
@@ -178,17 +186,22 @@ literal_none other _ _ _ a b c d e (falsity g) = c g
 literal_none other _ _ _ a b c d e (name g) = d _ g
 
 pub literal_misses : (tokens : List Token) (i : ℕ) → i < length tokens → (text tokens i ≡ mark.Sign MINUS → ⊥) → (text tokens i ≡ mark.Reserved TRUE → ⊥) → (text tokens i ≡ mark.Reserved FALSE → ⊥)
-  → ((t : Listed ℕ) → text tokens i ≡ mark.Name t → ⊥) → ((k : ℕ) → text tokens i ≡ mark.Number k → k < 2 ^ 63 → ⊥) → Misses ALiteral nothing tokens i (stop.Unexpected i)
-literal_misses tokens i inside a b c d e = record { told = (record {
-    reached = omega arith;
-    value = literal.Bool true;
-    ahead = mark.Reserved TRUE ∷ [];
-    some = lit< tt;
-    begun = λ limit roomy other n agrees holds. subst (λ (q : ℕ). Literal other (literal.Bool true) i q) (sym holds.1) (truth holds.0);
-    ended = λ limit under other w n agrees x.
-      let s : text tokens i ≡ other i = sym (agrees i (omega arith)) in
-      absurd (literal_none other w i n (λ g. a (s ∙ g)) (λ g. b (s ∙ g)) (λ g. c (s ∙ g)) (λ t g. d t (s ∙ g)) (λ k g l. e k (s ∙ g) l) x);
-  }, inside) }
+    → ((t : Listed ℕ) → text tokens i ≡ mark.Name t → ⊥) → ((k : ℕ) → text tokens i ≡ mark.Number k → k < 2 ^ 63 → ⊥) → Misses ALiteral nothing tokens i (stop.Unexpected i)
+literal_misses tokens i inside a b c d e = record {
+  told = (
+    record {
+      reached = omega arith;
+      value = literal.Bool true;
+      ahead = mark.Reserved TRUE ∷ [];
+      some = lit< tt;
+      begun = λ limit roomy other n agrees holds. subst (λ (q : ℕ). Literal other (literal.Bool true) i q) (sym holds.1) (truth holds.0);
+      ended = λ limit under other w n agrees x.
+          let s : text tokens i ≡ other i = sym (agrees i (omega arith)) in
+          absurd (literal_none other w i n (λ g. a (s ∙ g)) (λ g. b (s ∙ g)) (λ g. c (s ∙ g)) (λ t g. d t (s ∙ g)) (λ k g l. e k (s ∙ g) l) x);
+    },
+    inside,
+  );
+}
 
 -- regions
 
@@ -214,7 +227,7 @@ written_only other k _ i _ h f unwritten = inr (region_word other i h, omega ari
 written_only other k _ i _ h f (written _ g _ _) = inl (same_number g f, refl)
 
 pub written_accepts : (tokens : List Token) (i k : ℕ) → i + 1 < length tokens → EndsLast tokens → text tokens i ≡ mark.Reserved IN → text tokens (i + 1) ≡ mark.Number k → 1 ≤ k → k ≤ 4
-  → Accepts ARegion is_region_word 1 tokens k i (i + 2)
+    → Accepts ARegion is_region_word 1 tokens k i (i + 2)
 written_accepts tokens i k inside ends h f low high = record {
   exact = record {
     forward = omega arith;
@@ -229,21 +242,26 @@ region_none other _ i _ h f unwritten = (region_word other i h, omega arith)
 region_none other _ i _ h f (written _ g a b) = absurd (f _ g a b)
 
 pub region_misses : (tokens : List Token) (i : ℕ) → i + 1 < length tokens → text tokens i ≡ mark.Reserved IN → ((k : ℕ) → text tokens (i + 1) ≡ mark.Number k → 1 ≤ k → k ≤ 4 → ⊥)
-  → Misses ARegion is_region_word tokens i (stop.Unexpected (i + 1))
-region_misses tokens i inside h none = record { told = (record {
-    reached = omega arith;
-    value = 1;
-    ahead = mark.Number 1 ∷ [];
-    some = lit< tt;
-    begun = λ limit roomy other n agrees holds. subst (λ (q : ℕ). Region other 1 i q) (let e : i + 2 ≡ n = omega (arith, holds.1) in e) (written (agrees i (omega arith) ∙ h) holds.0 (lit≤ tt) (lit≤ tt));
-    ended = λ limit under other r n agrees x. region_none other r i n (agrees i (omega arith) ∙ h) (λ k e a b. none k (sym (agrees (i + 1) (omega arith)) ∙ e) a b) x;
-  }, inside) }
+    → Misses ARegion is_region_word tokens i (stop.Unexpected (i + 1))
+region_misses tokens i inside h none = record {
+  told = (
+    record {
+      reached = omega arith;
+      value = 1;
+      ahead = mark.Number 1 ∷ [];
+      some = lit< tt;
+      begun = λ limit roomy other n agrees holds. subst (λ (q : ℕ). Region other 1 i q) (let e : i + 2 ≡ n = omega (arith, holds.1) in e) (written (agrees i (omega arith) ∙ h) holds.0 (lit≤ tt) (lit≤ tt));
+      ended = λ limit under other r n agrees x. region_none other r i n (agrees i (omega arith) ∙ h) (λ k e a b. none k (sym (agrees (i + 1) (omega arith)) ∙ e) a b) x;
+    },
+    inside,
+  );
+}
 
 -- a primary expression that begins with none of the words and signs of the others is a literal
 
 leaf_only : (opened : ℕ) (limit : ℕ → ℕ) (other : ℕ → Mark) (v : RawExpr) (i n : ℕ) → (other i ≡ mark.Sign OPEN → ⊥) → (other i ≡ mark.Reserved NOT → ⊥) → (other i ≡ mark.Reserved RECOVER → ⊥)
-  → (other i ≡ mark.Reserved HAS → ⊥) → (other i ≡ mark.Reserved FAULT → ⊥) → (other i ≡ mark.Reserved SIZE → ⊥) → (other i ≡ mark.Reserved ARG → ⊥) → (other i ≡ mark.Reserved SELF → ⊥)
-  → Reads other limit Primary opened v i n → Then ALiteral (λ w. Done (expr.Lit w)) other limit v i n
+    → (other i ≡ mark.Reserved HAS → ⊥) → (other i ≡ mark.Reserved FAULT → ⊥) → (other i ≡ mark.Reserved SIZE → ⊥) → (other i ≡ mark.Reserved ARG → ⊥) → (other i ≡ mark.Reserved SELF → ⊥)
+    → Reads other limit Primary opened v i n → Then ALiteral (λ w. Done (expr.Lit w)) other limit v i n
 leaf_only opened limit other _ _ _ a b c d e f g h (literal_ {n = n} {v = v} x) = record { value = v; middle = n; first = x; second = record { is = refl; stays = refl } }
 leaf_only opened limit other _ _ _ a b c d e f g h (arg x) = absurd (g x)
 leaf_only opened limit other _ _ _ a b c d e f g h (own x) = absurd (h x)
@@ -255,84 +273,169 @@ leaf_only opened limit other _ _ _ a b c d e f g h (size x _ _ _) = absurd (f x)
 leaf_only opened limit other _ _ _ a b c d e f g h (membership x _ _ _ _ _) = absurd (d x)
 
 pub leaf_stage : (opened : ℕ) (tokens : List Token) (i : ℕ) → (text tokens i ≡ mark.Sign OPEN → ⊥) → (text tokens i ≡ mark.Reserved NOT → ⊥) → (text tokens i ≡ mark.Reserved RECOVER → ⊥)
-  → (text tokens i ≡ mark.Reserved HAS → ⊥) → (text tokens i ≡ mark.Reserved FAULT → ⊥) → (text tokens i ≡ mark.Reserved SIZE → ⊥) → (text tokens i ≡ mark.Reserved ARG → ⊥) → (text tokens i ≡ mark.Reserved SELF → ⊥)
-  → Stage (APhrase Primary opened) nothing tokens 1 i i (Then ALiteral (λ w. Done (expr.Lit w)))
-leaf_stage opened tokens i a b c d e f g h = record { so_far = record {
-  forward = omega arith;
-  build = λ limit enough other v n agrees r. moved (λ x q. Reads other limit Primary opened x i q) (literal_ r.first) r.second.is r.second.stays;
-  invert = λ limit other v n agrees x.
-    let s : text tokens i ≡ other i = sym (agrees i (omega arith)) in
-    inl (leaf_only opened limit other v i n (λ y. a (s ∙ y)) (λ y. b (s ∙ y)) (λ y. c (s ∙ y)) (λ y. d (s ∙ y)) (λ y. e (s ∙ y)) (λ y. f (s ∙ y)) (λ y. g (s ∙ y)) (λ y. h (s ∙ y)) x);
-} }
+    → (text tokens i ≡ mark.Reserved HAS → ⊥) → (text tokens i ≡ mark.Reserved FAULT → ⊥) → (text tokens i ≡ mark.Reserved SIZE → ⊥) → (text tokens i ≡ mark.Reserved ARG → ⊥) → (text tokens i ≡ mark.Reserved SELF → ⊥)
+    → Stage (APhrase Primary opened) nothing tokens 1 i i (Then ALiteral (λ w. Done (expr.Lit w)))
+leaf_stage opened tokens i a b c d e f g h = record {
+  so_far = record {
+    forward = omega arith;
+    build = λ limit enough other v n agrees r. moved (λ x q. Reads other limit Primary opened x i q) (literal_ r.first) r.second.is r.second.stays;
+    invert = λ limit other v n agrees x.
+        let s : text tokens i ≡ other i = sym (agrees i (omega arith)) in
+        inl (leaf_only opened limit other v i n (λ y. a (s ∙ y)) (λ y. b (s ∙ y)) (λ y. c (s ∙ y)) (λ y. d (s ∙ y)) (λ y. e (s ∙ y)) (λ y. f (s ∙ y)) (λ y. g (s ∙ y)) (λ y. h (s ∙ y)) x);
+  };
+}
 
 -- phrases that are read together
 
 module _ {V : Type 0} (X : Language V) (goes_on : Mark → Bool) (tokens : List Token) (ahead i k : ℕ) where
   pub first_name_together : (Z : Listed ℕ → Language V) → Stage X goes_on tokens ahead i k (Then (Single (mark.Sign OPEN)) (λ _. Then Named (λ t. Then (Single (mark.Sign COMMA)) (λ _. Z t))))
-    → Stage X goes_on tokens ahead i k (Then FirstName Z)
-  first_name_together Z s = let g = s.so_far in record { so_far = record {
-    forward = g.forward;
-    build = λ limit enough other v n agrees r. g.build limit enough other v n agrees
-      (let f = r.first in let d = f.second.second.second in
-       record { value = f.value; middle = f.middle; first = f.first; second = record { value = f.second.value; middle = f.second.middle; first = f.second.first;
-         second = record { value = tt; middle = f.second.second.middle; first = f.second.second.first;
-           second = moved (λ (t : Listed ℕ) (q : ℕ). Z t other limit v q n) r.second (sym d.is) (sym d.stays) } } });
-    invert = λ limit other v n agrees x. elim (g.invert limit other v n agrees x) [
-      inl r ↦ inl (record { value = r.second.value; middle = r.second.second.middle;
-        first = record { value = r.value; middle = r.middle; first = r.first; second = record { value = r.second.value; middle = r.second.middle; first = r.second.first;
-          second = record { value = tt; middle = r.second.second.middle; first = r.second.second.first; second = record { is = refl; stays = refl } } } };
-        second = r.second.second.second })
-    | inr early ↦ inr early
-    ];
-  } }
+      → Stage X goes_on tokens ahead i k (Then FirstName Z)
+  first_name_together Z s = let g = s.so_far in record {
+    so_far = record {
+      forward = g.forward;
+      build = λ limit enough other v n agrees r. g.build limit enough other v n agrees
+          (let f = r.first in let d = f.second.second.second in
+          record {
+            value = f.value;
+            middle = f.middle;
+            first = f.first;
+            second = record {
+              value = f.second.value;
+              middle = f.second.middle;
+              first = f.second.first;
+              second = record {
+                value = tt;
+                middle = f.second.second.middle;
+                first = f.second.second.first;
+                second = moved (λ (t : Listed ℕ) (q : ℕ). Z t other limit v q n) r.second (sym d.is) (sym d.stays);
+              };
+            };
+          });
+      invert = λ limit other v n agrees x. elim (g.invert limit other v n agrees x) [
+        | inl r ↦ inl (record {
+          value = r.second.value;
+          middle = r.second.second.middle;
+          first = record {
+            value = r.value;
+            middle = r.middle;
+            first = r.first;
+            second = record {
+              value = r.second.value;
+              middle = r.second.middle;
+              first = r.second.first;
+              second = record { value = tt; middle = r.second.second.middle; first = r.second.second.first; second = record { is = refl; stays = refl } };
+            };
+          };
+          second = r.second.second.second;
+        })
+        | inr early ↦ inr early
+      ];
+    };
+  }
 
   pub only_name_together : (Z : Listed ℕ → Language V) → Stage X goes_on tokens ahead i k (Then (Single (mark.Sign OPEN)) (λ _. Then Named (λ t. Then (Single (mark.Sign CLOSE)) (λ _. Z t))))
-    → Stage X goes_on tokens ahead i k (Then OnlyName Z)
-  only_name_together Z s = let g = s.so_far in record { so_far = record {
-    forward = g.forward;
-    build = λ limit enough other v n agrees r. g.build limit enough other v n agrees
-      (let f = r.first in let d = f.second.second.second in
-       record { value = f.value; middle = f.middle; first = f.first; second = record { value = f.second.value; middle = f.second.middle; first = f.second.first;
-         second = record { value = tt; middle = f.second.second.middle; first = f.second.second.first;
-           second = moved (λ (t : Listed ℕ) (q : ℕ). Z t other limit v q n) r.second (sym d.is) (sym d.stays) } } });
-    invert = λ limit other v n agrees x. elim (g.invert limit other v n agrees x) [
-      inl r ↦ inl (record { value = r.second.value; middle = r.second.second.middle;
-        first = record { value = r.value; middle = r.middle; first = r.first; second = record { value = r.second.value; middle = r.second.middle; first = r.second.first;
-          second = record { value = tt; middle = r.second.second.middle; first = r.second.second.first; second = record { is = refl; stays = refl } } } };
-        second = r.second.second.second })
-    | inr early ↦ inr early
-    ];
-  } }
+      → Stage X goes_on tokens ahead i k (Then OnlyName Z)
+  only_name_together Z s = let g = s.so_far in record {
+    so_far = record {
+      forward = g.forward;
+      build = λ limit enough other v n agrees r. g.build limit enough other v n agrees
+          (let f = r.first in let d = f.second.second.second in
+          record {
+            value = f.value;
+            middle = f.middle;
+            first = f.first;
+            second = record {
+              value = f.second.value;
+              middle = f.second.middle;
+              first = f.second.first;
+              second = record {
+                value = tt;
+                middle = f.second.second.middle;
+                first = f.second.second.first;
+                second = moved (λ (t : Listed ℕ) (q : ℕ). Z t other limit v q n) r.second (sym d.is) (sym d.stays);
+              };
+            };
+          });
+      invert = λ limit other v n agrees x. elim (g.invert limit other v n agrees x) [
+        | inl r ↦ inl (record {
+          value = r.second.value;
+          middle = r.second.second.middle;
+          first = record {
+            value = r.value;
+            middle = r.middle;
+            first = r.first;
+            second = record {
+              value = r.second.value;
+              middle = r.second.middle;
+              first = r.second.first;
+              second = record { value = tt; middle = r.second.second.middle; first = r.second.second.first; second = record { is = refl; stays = refl } };
+            };
+          };
+          second = r.second.second.second;
+        })
+        | inr early ↦ inr early
+      ];
+    };
+  }
 
   pub kind_together : (Z : Kind → Language V) → Stage X goes_on tokens ahead i k (Then (Single (mark.Sign COLON)) (λ _. Then AKind Z))
-    → Stage X goes_on tokens ahead i k (Then KindPart Z)
-  kind_together Z s = let g = s.so_far in record { so_far = record {
-    forward = g.forward;
-    build = λ limit enough other v n agrees r. g.build limit enough other v n agrees
-      (let f = r.first in record { value = f.value; middle = f.middle; first = f.first; second = record { value = r.value; middle = r.middle; first = f.second; second = r.second } });
-    invert = λ limit other v n agrees x. elim (g.invert limit other v n agrees x) [
-      inl r ↦ inl (record { value = r.second.value; middle = r.second.middle; first = record { value = r.value; middle = r.middle; first = r.first; second = r.second.first }; second = r.second.second })
-    | inr early ↦ inr early
-    ];
-  } }
+      → Stage X goes_on tokens ahead i k (Then KindPart Z)
+  kind_together Z s = let g = s.so_far in record {
+    so_far = record {
+      forward = g.forward;
+      build = λ limit enough other v n agrees r. g.build limit enough other v n agrees
+          (let f = r.first in record { value = f.value; middle = f.middle; first = f.first; second = record { value = r.value; middle = r.middle; first = f.second; second = r.second } });
+      invert = λ limit other v n agrees x. elim (g.invert limit other v n agrees x) [
+        | inl r ↦ inl (record { value = r.second.value; middle = r.second.middle; first = record { value = r.value; middle = r.middle; first = r.first; second = r.second.first }; second = r.second.second })
+        | inr early ↦ inr early
+      ];
+    };
+  }
 
   pub start_together : (Z : Kind × RawLit → Language V) → Stage X goes_on tokens ahead i k (Then (Single (mark.Sign COLON)) (λ _. Then AKind (λ k. Then (Single (mark.Sign EQUALS)) (λ _. Then ALiteral (λ v. Z (k, v))))))
-    → Stage X goes_on tokens ahead i k (Then StartPart Z)
-  start_together Z s = let g = s.so_far in record { so_far = record {
-    forward = g.forward;
-    build = λ limit enough other v n agrees r. g.build limit enough other v n agrees
-      (let f = r.first in let p = f.first in let d = f.second.second.second in
-       record { value = p.value; middle = p.middle; first = p.first; second = record { value = f.value; middle = f.middle; first = p.second;
-         second = record { value = f.second.value; middle = f.second.middle; first = f.second.first; second = record { value = f.second.second.value; middle = f.second.second.middle; first = f.second.second.first;
-           second = moved (λ (t : Kind × RawLit) (q : ℕ). Z t other limit v q n) r.second (sym d.is) (sym d.stays) } } } });
-    invert = λ limit other v n agrees x. elim (g.invert limit other v n agrees x) [
-      inl r ↦ inl (let a = r.second in let b = a.second in let d = b.second in record { value = (a.value, d.value); middle = d.middle;
-        first = record { value = a.value; middle = a.middle; first = record { value = r.value; middle = r.middle; first = r.first; second = a.first };
-          second = record { value = b.value; middle = b.middle; first = b.first; second = record { value = d.value; middle = d.middle; first = d.first; second = record { is = refl; stays = refl } } } };
-        second = d.second })
-    | inr early ↦ inr early
-    ];
-  } }
+      → Stage X goes_on tokens ahead i k (Then StartPart Z)
+  start_together Z s = let g = s.so_far in record {
+    so_far = record {
+      forward = g.forward;
+      build = λ limit enough other v n agrees r. g.build limit enough other v n agrees
+          (let f = r.first in let p = f.first in let d = f.second.second.second in
+          record {
+            value = p.value;
+            middle = p.middle;
+            first = p.first;
+            second = record {
+              value = f.value;
+              middle = f.middle;
+              first = p.second;
+              second = record {
+                value = f.second.value;
+                middle = f.second.middle;
+                first = f.second.first;
+                second = record {
+                  value = f.second.second.value;
+                  middle = f.second.second.middle;
+                  first = f.second.second.first;
+                  second = moved (λ (t : Kind × RawLit) (q : ℕ). Z t other limit v q n) r.second (sym d.is) (sym d.stays);
+                };
+              };
+            };
+          });
+      invert = λ limit other v n agrees x. elim (g.invert limit other v n agrees x) [
+        | inl r ↦ inl (let a = r.second in let b = a.second in let d = b.second in record {
+          value = (a.value, d.value);
+          middle = d.middle;
+          first = record {
+            value = a.value;
+            middle = a.middle;
+            first = record { value = r.value; middle = r.middle; first = r.first; second = a.first };
+            second = record { value = b.value; middle = b.middle; first = b.first; second = record { value = d.value; middle = d.middle; first = d.first; second = record { is = refl; stays = refl } } };
+          };
+          second = d.second;
+        })
+        | inr early ↦ inr early
+      ];
+    };
+  }
 
 pub no_end_word : {w : ℕ} {m : Mark} → m ≡ mark.Reserved w → m ≡ mark.End → ⊥
 no_end_word e f = cc
@@ -364,7 +467,7 @@ literal_longer other _ _ _ (falsity _) = omega arith
 literal_longer other _ _ _ (name _) = omega arith
 
 pub next_one_literal : {V : Type 0} {X : Language V} {goes_on : Mark → Bool} {tokens : List Token} {i k k' : ℕ} {Z : RawLit → Language V} {v : RawLit}
-  → Stage X goes_on tokens 1 i k (Then ALiteral Z) → Accepts ALiteral nothing 0 tokens v k k' → Stage X goes_on tokens 0 i k' (Z v)
+    → Stage X goes_on tokens 1 i k (Then ALiteral Z) → Accepts ALiteral nothing 0 tokens v k k' → Stage X goes_on tokens 0 i k' (Z v)
 next_one_literal {V} {X} {goes_on} {tokens} {i} {k} {k'} {Z} {v} s e =
     let longer : k < k' = literal_longer (text tokens) v k k' (e.exact.read (λ _. 128) (λ _. lit≤ tt) (text tokens) (λ _ _. refl)) in
     record { so_far = so_next X goes_on (text tokens) (k + 1) (k' + 0) i k k' ALiteral Z nothing v s.so_far e.exact (omega arith) after_nothing }

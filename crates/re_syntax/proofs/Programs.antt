@@ -1,4 +1,4 @@
-use Rattle.std.proofs.Common.{ℕ, zero, suc, ◌+◌, ◌-◌, ◌<◌, ◌≤◌, ◌≡◌, ◌&&◌, ◌⊎◌, inl, inr, Bool, true, false, List, [], ◌∷◌, ◌++◌, length, length-take, length-append, append_assoc, take, map, Option, Some, None, refl, sym, subst, ◌∙◌, ap, arith, lit≤, lit<, nat_le, cond, leb}
+use Rattle.std.proofs.Common.{ℕ, zero, suc, ◌+◌, ◌<◌, ◌≤◌, ◌≡◌, ◌&&◌, inl, inr, Bool, true, false, List, [], ◌∷◌, ◌++◌, length, length-take, length-append, append_assoc, take, Some, refl, sym, subst, ◌∙◌, ap, arith, lit≤, nat_le, cond}
 use Rattle.std.specs.List.{list_all}
 use Rattle.std.specs.Prelude.{slice_get}
 use Rattle.std.proofs.Common.{get_or}
@@ -16,11 +16,11 @@ use Rattle.std.proofs.Math.Nat.{lt_of_not-le}
 use Rattle.re_terms.specs.declared.raw_expr.RawLit.{RawLit}
 use Rattle.re_terms.specs.declared.raw_expr.RawExpr.{RawExpr}
 use Rattle.re_terms.specs.declared.raw.RawBody.{RawBody}
-use Rattle.re_syntax.specs.Grammar.{marks_of, mark_at, Literal, number, negative, truth, falsity, name, Region, unwritten, written, Phrase, Reads, condition, plain, operands, primary, last, again, once, literal_, arg, own, brackets, negation, recovery, fault, size, membership, Source, changed, mapped, filtered, either, Content, device, symbol, var, event, derived, signal, fold, counter, set, register, Declaration, Declarations, none, more, Derives}
-use Rattle.re_syntax.specs.Places.{Agrees, Begins, Head, IsDeep, IsKeptUpTo, IsUnexpected, OpensTooMany, EndsTooDeep, StandsAt, IsTooDeep, open_limit}
+use Rattle.re_syntax.specs.Grammar.{marks_of, mark_at, Literal, number, negative, truth, falsity, name, Region, unwritten, written, Phrase, Reads, condition, plain, operands, primary, last, again, once, literal_, arg, own, brackets, negation, recovery, fault, size, membership, Source, changed, mapped, filtered, either, Content, device, symbol, var, event, derived, signal, fold, counter, set, register, Declaration, Declarations, none, more}
+use Rattle.re_syntax.specs.Places.{Agrees, Begins, Head, IsDeep, IsUnexpected, OpensTooMany, EndsTooDeep, StandsAt, IsTooDeep, open_limit}
 use Rattle.re_syntax.specs.Programs.{IsShallow, IsProgram, StopsProgram}
 use Rattle.re_syntax.specs.Steps.{text, Holds, IsEnough, IsRoomy, nothing, EndsLast, Cause, Unfit, Beyond, fitting, IsRefusedUnder, Refusal, Accepts, Stops, ADeclaration, DeepDeclaration}
-use Rattle.re_syntax.proofs.Steps.{no_true, holds_split, holds_forward}
+use Rattle.re_syntax.proofs.Steps.{no_true, holds_split}
 use Rattle.re_syntax.proofs.Depths.{patched, same_before}
 use Rattle.re_syntax.proofs.Forms.{HasNames, declaration_is}
 
@@ -107,7 +107,7 @@ pub record Progress (tokens : List Token) (done : List RawDecl) (here : ℕ) : T
   pub inside : here < length tokens
   pub build : (limit : ℕ → ℕ) → IsEnough limit → (other : ℕ → Mark) (ds : List RawDecl) (n : ℕ) → Agrees here (text tokens) other → Declarations other limit ds here n → Declarations other limit (done ++ ds) 0 n
   pub invert : (limit : ℕ → ℕ) (other : ℕ → Mark) (ds : List RawDecl) (n : ℕ) → Agrees here (text tokens) other → here ≤ n → Declarations other limit ds 0 n
-    → (rest : List RawDecl) × ((ds ≡ done ++ rest) × Declarations other limit rest here n)
+      → (rest : List RawDecl) × ((ds ≡ done ++ rest) × Declarations other limit rest here n)
   pub deep : (before : List RawDecl) (start s : ℕ) → Declarations (text tokens) open_limit before 0 start → Head (text tokens) start s → IsDeep (text tokens) s → here ≤ start
   pub shallow : list_all is_declaration done ≡ true
 
@@ -121,8 +121,8 @@ progress_start tokens h = record {
 }
 
 first_rest : (limit : ℕ → ℕ) (other : ℕ → Mark) (rest : List RawDecl) (here n next : ℕ) (d : RawDecl) (done : List RawDecl) → here < next → next ≤ n
-  → ((e : RawDecl) (k : ℕ) → Declaration other limit e here k → (e ≡ d) × (k ≡ next)) → Declarations other limit rest here n
-  → (ds : List RawDecl) × ((done ++ rest ≡ (done ++ (d ∷ [])) ++ ds) × Declarations other limit ds next n)
+    → ((e : RawDecl) (k : ℕ) → Declaration other limit e here k → (e ≡ d) × (k ≡ next)) → Declarations other limit rest here n
+    → (ds : List RawDecl) × ((done ++ rest ≡ (done ++ (d ∷ [])) ++ ds) × Declarations other limit ds next n)
 first_rest limit other _ here _ next d done longer far only none = absurd (omega arith)
 first_rest limit other _ here n next d done longer far only (more {k = k} {d = e} {ds = ds} x y) =
     let same = only e k x in
@@ -197,7 +197,7 @@ deep_rest at _ here _ next differ only none = absurd (differ refl)
 deep_rest at _ here start next differ only (more {k = k} {d = e} x y) = let same : k ≡ next = only e k x in omega (arith, declarations_forward y)
 
 pub progress_step : (tokens : List Token) (done : List RawDecl) (here next : ℕ) (d : RawDecl) → IsTokenList tokens → Progress tokens done here → Accepts ADeclaration nothing 0 tokens d here next → here < next → IsShallow d.body
-  → ((s : ℕ) → DeepDeclaration tokens here s → ⊥) → Progress tokens (done ++ (d ∷ [])) next
+    → ((s : ℕ) → DeepDeclaration tokens here s → ⊥) → Progress tokens (done ++ (d ∷ [])) next
 progress_step tokens done here next d list p a longer shallow not_deep = record {
   inside = a.inside;
   build = λ limit enough other ds n agrees x. subst (λ (l : List RawDecl). Declarations other limit l 0 n) (sym (append_assoc done (d ∷ []) ds))
@@ -205,7 +205,7 @@ progress_step tokens done here next d list p a longer shallow not_deep = record 
   invert = λ limit other ds n agrees le x.
       let r = p.invert limit other ds n (λ k below. agrees k (omega arith)) (omega arith) x in
       let f = first_rest limit other r.0 here n next d done longer le
-          (λ e k y. elim (a.exact.only limit other e k (λ q below. agrees q (omega arith)) y) [ inl same ↦ same | inr early ↦ absurd (no_true early.0) ]) r.1.1 in
+      (λ e k y. elim (a.exact.only limit other e k (λ q below. agrees q (omega arith)) y) [ inl same ↦ same | inr early ↦ absurd (no_true early.0) ]) r.1.1 in
       (f.0, (r.1.0 ∙ f.1.0, f.1.1));
   deep = λ before start s x y z.
       let least = p.deep before start s x y z in
@@ -234,15 +234,15 @@ progress_ends tokens done here list bare p e =
       derived = record { last = here; declarations = subst (λ (l : List RawDecl). Declarations (text tokens) open_limit l 0 here) (append_none done.items) (p.build open_limit (λ _. lit≤ tt) (text tokens) [] here (λ _ _. refl) none); end = e; all = omega arith };
       declarations = p.shallow;
       only = λ limit other x.
-        let same : x.last ≡ here = omega (arith, x.all) in
-        let r = p.invert limit (text tokens) other x.last (λ _ _. refl) (omega arith) x.declarations in
-        let f = ended_rest (text tokens) limit r.0 here x.last e r.1.1 in
-        r.1.0 ∙ ap (λ (l : List RawDecl). done.items ++ l) f.0 ∙ append_none done.items;
+          let same : x.last ≡ here = omega (arith, x.all) in
+          let r = p.invert limit (text tokens) other x.last (λ _ _. refl) (omega arith) x.declarations in
+          let f = ended_rest (text tokens) limit r.0 here x.last e r.1.1 in
+          r.1.0 ∙ ap (λ (l : List RawDecl). done.items ++ l) f.0 ∙ append_none done.items;
       shallow = λ byte x.
-        let least = p.deep x.before x.start x.number x.declared x.head x.deep in
-        let r = p.invert open_limit (text tokens) x.before x.start (λ _ _. refl) least x.declared in
-        let f = ended_rest (text tokens) open_limit r.0 here x.start e r.1.1 in
-        no_end (subst (λ (q : ℕ). text tokens q ≡ mark.Reserved x.head.word) f.1 x.head.begins) e;
+          let least = p.deep x.before x.start x.number x.declared x.head x.deep in
+          let r = p.invert open_limit (text tokens) x.before x.start (λ _ _. refl) least x.declared in
+          let f = ended_rest (text tokens) open_limit r.0 here x.start e r.1.1 in
+          no_end (subst (λ (q : ℕ). text tokens q ≡ mark.Reserved x.head.word) f.1 x.head.begins) e;
     }
 
 -- refusals
@@ -295,20 +295,20 @@ refused_begins tokens done here j cause p inside r =
     }
 
 refused_rest : (tokens : List Token) (cause : Cause) (here j n : ℕ) (limit : ℕ → ℕ) (other : ℕ → Mark) (rest : List RawDecl) → Refusal ADeclaration nothing (text tokens) cause here j → IsRefusedUnder cause j limit → Agrees (j + 1) (text tokens) other
-  → (n ≡ here → ⊥) → Declarations other limit rest here n → ⊥
+    → (n ≡ here → ⊥) → Declarations other limit rest here n → ⊥
 refused_rest tokens cause here j _ limit other _ r under agrees differ none = differ refl
 refused_rest tokens cause here j n limit other _ r under agrees differ (more {k = k} {d = d} x y) = no_true (r.ended limit under other d k agrees x).0
 
 refused_ends : (tokens : List Token) (done : List RawDecl) (here j : ℕ) (cause : Cause) → IsTokenList tokens → Progress tokens done here → (text tokens here ≡ mark.End → ⊥) → here ≤ j → j < length tokens
-  → Refusal ADeclaration nothing (text tokens) cause here j → (limit : ℕ → ℕ) → IsRefusedUnder cause j limit → Begins limit (marks_of tokens) (j + 1) → ⊥
+    → Refusal ADeclaration nothing (text tokens) cause here j → (limit : ℕ → ℕ) → IsRefusedUnder cause j limit → Begins limit (marks_of tokens) (j + 1) → ⊥
 refused_ends tokens done here j cause list p other within inside r limit under b =
     let room : j + 1 ≤ length (marks_of tokens) = rw length-map (omega arith) in
     let at : ℕ → Mark = mark_at (take (j + 1) (marks_of tokens) ++ b.more) in
     let agrees : Agrees (j + 1) (text tokens) (mark_at (take (j + 1) (marks_of tokens) ++ b.more)) = λ k below. same_before (marks_of tokens) b.more (j + 1) k room below in
     let x = b.derived in
     let far : here < x.last + 1 = lt_of_not-le (λ h.
-        let early : x.last + 1 ≡ length tokens = end_is_last tokens 0 x.last list (let i : here < length tokens = p.inside in omega (arith, h)) (sym (agrees x.last (omega (arith, h))) ∙ x.end) in
-        let i : here < length tokens = p.inside in omega (arith, h)) in
+    let early : x.last + 1 ≡ length tokens = end_is_last tokens 0 x.last list (let i : here < length tokens = p.inside in omega (arith, h)) (sym (agrees x.last (omega (arith, h))) ∙ x.end) in
+    let i : here < length tokens = p.inside in omega (arith, h)) in
     let s = p.invert limit (mark_at (take (j + 1) (marks_of tokens) ++ b.more)) b.program x.last (λ k below. agrees k (omega arith)) (omega arith) x.declarations in
     refused_rest tokens cause here j x.last limit (mark_at (take (j + 1) (marks_of tokens) ++ b.more)) s.0 r under agrees
     (λ e. other (sym (agrees here (omega arith)) ∙ subst (λ (q : ℕ). mark_at (take (j + 1) (marks_of tokens) ++ b.more) q ≡ mark.End) e x.end)) s.1.1
@@ -318,7 +318,7 @@ under_limit Unfit j = tt
 under_limit Beyond j = λ k h. lit≤ tt
 
 refused_not_deep : (tokens : List Token) (done : List RawDecl) (here j : ℕ) (cause : Cause) → Progress tokens done here → Refusal ADeclaration nothing (text tokens) cause here j → ((s : ℕ) → DeepDeclaration tokens here s → ⊥)
-  → (byte : ℕ) → EndsTooDeep tokens byte → ⊥
+    → (byte : ℕ) → EndsTooDeep tokens byte → ⊥
 refused_not_deep tokens done here j cause p r not_deep byte x =
     let least = p.deep x.before x.start x.number x.declared x.head x.deep in
     let s = p.invert open_limit (text tokens) x.before x.start (λ _ _. refl) least x.declared in
@@ -329,25 +329,51 @@ pub progress_stops : (tokens : List Token) (done : List RawDecl) (here : ℕ) (s
 progress_stops tokens done here stop.Memory list p other r = record { told = tt }
 progress_stops tokens done here (stop.Unexpected j) list p other r =
     let within : here ≤ j = r.told.0.reached in
-    record { told = (r.told.1, λ byte at. record {
-      number = j; stands = at; limit = limit_to j; kept = λ k h. limit_low j k h;
-      begun = refused_begins tokens done here j Unfit p r.told.1 r.told.0;
-      ended = λ limit b. refused_ends tokens done here j Unfit list p other within r.told.1 r.told.0 limit tt b;
-      first = λ deep x. refused_not_deep tokens done here j Unfit p r.told.0 r.told.2 deep x;
-    }) }
+    record {
+      told = (
+        r.told.1,
+        λ byte at. record {
+          number = j;
+          stands = at;
+          limit = limit_to j;
+          kept = λ k h. limit_low j k h;
+          begun = refused_begins tokens done here j Unfit p r.told.1 r.told.0;
+          ended = λ limit b. refused_ends tokens done here j Unfit list p other within r.told.1 r.told.0 limit tt b;
+          first = λ deep x. refused_not_deep tokens done here j Unfit p r.told.0 r.told.2 deep x;
+        },
+      );
+    }
 progress_stops tokens done here (stop.TooMany j) list p other r =
-    record { told = (r.told.1, λ byte at. record {
-      number = j; stands = at; limit = limit_to j; kept = λ k h. limit_low j k h;
-      begun = refused_begins tokens done here j Beyond p r.told.1 r.told.0;
-      ended = λ limit kept b. refused_ends tokens done here j Beyond list p other r.within r.told.1 r.told.0 limit kept b;
-      first = λ deep x. refused_not_deep tokens done here j Beyond p r.told.0 r.told.2 deep x;
-    }) }
+    record {
+      told = (
+        r.told.1,
+        λ byte at. record {
+          number = j;
+          stands = at;
+          limit = limit_to j;
+          kept = λ k h. limit_low j k h;
+          begun = refused_begins tokens done here j Beyond p r.told.1 r.told.0;
+          ended = λ limit kept b. refused_ends tokens done here j Beyond list p other r.within r.told.1 r.told.0 limit kept b;
+          first = λ deep x. refused_not_deep tokens done here j Beyond p r.told.0 r.told.2 deep x;
+        },
+      );
+    }
 progress_stops tokens done here (stop.TooDeep j) list p other r =
-    record { told = (r.told.1, λ byte at. record {
-      number = j; stands = at; before = done; start = here;
-      declared = subst (λ (l : List RawDecl). Declarations (text tokens) open_limit l 0 here) (append_none done) (p.build open_limit (λ _. lit≤ tt) (text tokens) [] here (λ _ _. refl) none);
-      shallow = p.shallow; head = r.told.0.0; deep = r.told.0.1;
-    }) }
+    record {
+      told = (
+        r.told.1,
+        λ byte at. record {
+          number = j;
+          stands = at;
+          before = done;
+          start = here;
+          declared = subst (λ (l : List RawDecl). Declarations (text tokens) open_limit l 0 here) (append_none done) (p.build open_limit (λ _. lit≤ tt) (text tokens) [] here (λ _ _. refl) none);
+          shallow = p.shallow;
+          head = r.told.0.0;
+          deep = r.told.0.1;
+        },
+      );
+    }
 
 -- places
 

@@ -1,25 +1,18 @@
-use Rattle.std.proofs.Common.{ℕ, suc, ◌+◌, ◌^◌, ◌<◌, ◌≤◌, ◌≡◌, ◌≢◌, ◌⊎◌, inl, inr, Bool, true, false, List, [], ◌∷◌, length, Option, Some, None, ℤ, pos, refl, sym, subst, ◌∙◌, ap, arith, add-zero, lit≤, lit<}
-use Rattle.std.specs.Prelude.{◌-ℤ◌}
-use Rattle.re_terms.specs.Listed.{Listed, plain}
-use Rattle.re_terms.specs.declared.reserved.TheConstants.{DEVICE, SYMBOL, VAR, EVENT, SIGNAL, FOLD, COUNTER, SET, REGISTER, CHANGED, MAP, FILTER, EITHER, ON, DO, IN, ARG, SELF, IF, THEN, ELSE, NOT, RECOVER, FAULT, SIZE, HAS, TRUE, FALSE, INT}
-use Rattle.re_terms.specs.declared.signs.TheConstants.{SEMICOLON, COLON, EQUALS, COMMA, OPEN, CLOSE, MINUS}
+use Rattle.std.proofs.Common.{ℕ, ◌+◌, ◌≡◌, inl, Bool, List, Some, refl, sym, subst, ◌∙◌, ap, arith}
+use Rattle.re_terms.specs.Listed.{Listed}
+use Rattle.re_terms.specs.declared.reserved.TheConstants.{DEVICE, SYMBOL, VAR, EVENT, SIGNAL, FOLD, COUNTER, SET, REGISTER, CHANGED, MAP, FILTER, EITHER, ON, DO, ARG, SELF, NOT, RECOVER, FAULT, SIZE, HAS}
+use Rattle.re_terms.specs.declared.signs.TheConstants.{SEMICOLON, COLON, EQUALS, COMMA, OPEN, CLOSE}
 use Rattle.re_terms.specs.declared.token.Token.{Token}
 use Rattle.re_terms.specs.declared.token.Mark.{Mark}
 use Rattle.re_terms.specs.declared.token.Mark.TheVariants as mark
-use Rattle.re_terms.specs.declared.word.Kind.{Kind}
-use Rattle.re_terms.specs.declared.word.Kind.TheVariants as kind
-use Rattle.re_terms.specs.declared.raw_expr.RawLit.{RawLit}
-use Rattle.re_terms.specs.declared.raw_expr.RawLit.TheVariants as literal
 use Rattle.re_terms.specs.declared.raw_expr.RawExpr.{RawExpr}
 use Rattle.re_terms.specs.declared.raw_expr.RawExpr.TheVariants as expr
 use Rattle.re_terms.specs.declared.raw.RawBody.{RawBody}
 use Rattle.re_terms.specs.declared.raw.RawBody.TheVariants as body
 use Rattle.re_terms.specs.declared.raw.RawDecl.{RawDecl}
-use Rattle.re_syntax.specs.Grammar.{kind_of, operator_of, Literal, number, negative, truth, falsity, name, Region, unwritten, written, Phrase, Expression, Level, Further, Primary, Reads, condition, operands, primary, last, again, once, literal_, arg, own, brackets, negation, recovery, fault, size, membership, Source, changed, mapped, filtered, either, Content, device, symbol, var, event, derived, signal, fold, counter, set, register, Declaration}
-use Rattle.re_syntax.specs.Steps.{Language, text, IsEnough, nothing, joins, extends, Accepts, Then, One, Done, Single, Named, AKind, FaultCode, ALiteral, ARegion, APhrase, AnExpression, ASource, AContent, ADeclaration, FirstName, OnlyName, KindPart, StartPart}
-use Rattle.re_syntax.proofs.Steps.{SoFar, Completes, Follows, Includes, one_completes, done_completes, then_completes, no_true, after_one}
+use Rattle.re_syntax.specs.Grammar.{kind_of, Literal, number, negative, truth, falsity, name, Expression, Primary, Reads, literal_, arg, own, brackets, negation, recovery, fault, size, membership, Source, changed, mapped, filtered, either, Content, device, symbol, var, event, derived, signal, fold, counter, set, register, Declaration}
+use Rattle.re_syntax.specs.Steps.{Language, text, IsEnough, nothing, extends, Then, Done, Single, Named, AKind, FaultCode, ALiteral, ARegion, APhrase, AnExpression, ASource, AContent, ADeclaration}
 use Rattle.re_syntax.proofs.Tokens.{Stage}
-
 
 -- a number for each form of mark
 abbrev pub form : Mark → ℕ
@@ -43,25 +36,29 @@ same_number e f = cc
 
 -- what was read so far is a mark that is known
 pub stage_from : {V : Type 0} (X R : Language V) {goes_on : Mark → Bool} (tokens : List Token) (i : ℕ) (m : Mark) → text tokens i ≡ m
-  → ((limit : ℕ → ℕ) (other : ℕ → Mark) (v : V) (n : ℕ) → IsEnough limit → other i ≡ m → R other limit v (i + 1) n → X other limit v i n)
-  → ((limit : ℕ → ℕ) (other : ℕ → Mark) (v : V) (n : ℕ) → other i ≡ m → X other limit v i n → R other limit v (i + 1) n)
-  → Stage X goes_on tokens 0 i (i + 1) R
-stage_from X R tokens i m h build invert = record { so_far = record {
-  forward = omega arith;
-  build = λ limit enough other v n agrees r. build limit other v n enough (agrees i (omega arith) ∙ h) r;
-  invert = λ limit other v n agrees x. inl (invert limit other v n (agrees i (omega arith) ∙ h) x);
-} }
+    → ((limit : ℕ → ℕ) (other : ℕ → Mark) (v : V) (n : ℕ) → IsEnough limit → other i ≡ m → R other limit v (i + 1) n → X other limit v i n)
+    → ((limit : ℕ → ℕ) (other : ℕ → Mark) (v : V) (n : ℕ) → other i ≡ m → X other limit v i n → R other limit v (i + 1) n)
+    → Stage X goes_on tokens 0 i (i + 1) R
+stage_from X R tokens i m h build invert = record {
+  so_far = record {
+    forward = omega arith;
+    build = λ limit enough other v n agrees r. build limit other v n enough (agrees i (omega arith) ∙ h) r;
+    invert = λ limit other v n agrees x. inl (invert limit other v n (agrees i (omega arith) ∙ h) x);
+  };
+}
 
 -- nothing was read so far
 pub stage_at : {V : Type 0} (X R : Language V) {goes_on : Mark → Bool} (tokens : List Token) (i : ℕ)
-  → ((limit : ℕ → ℕ) (other : ℕ → Mark) (v : V) (n : ℕ) → IsEnough limit → R other limit v i n → X other limit v i n)
-  → ((limit : ℕ → ℕ) (other : ℕ → Mark) (v : V) (n : ℕ) → X other limit v i n → R other limit v i n)
-  → Stage X goes_on tokens 0 i i R
-stage_at X R tokens i build invert = record { so_far = record {
-  forward = omega arith;
-  build = λ limit enough other v n agrees r. build limit other v n enough r;
-  invert = λ limit other v n agrees x. inl (invert limit other v n x);
-} }
+    → ((limit : ℕ → ℕ) (other : ℕ → Mark) (v : V) (n : ℕ) → IsEnough limit → R other limit v i n → X other limit v i n)
+    → ((limit : ℕ → ℕ) (other : ℕ → Mark) (v : V) (n : ℕ) → X other limit v i n → R other limit v i n)
+    → Stage X goes_on tokens 0 i i R
+stage_at X R tokens i build invert = record {
+  so_far = record {
+    forward = omega arith;
+    build = λ limit enough other v n agrees r. build limit other v n enough r;
+    invert = λ limit other v n agrees x. inl (invert limit other v n x);
+  };
+}
 
 abbrev pub arg_rest : (opened : ℕ) → Language RawExpr
 arg_rest opened = Done (expr.Arg)
@@ -76,7 +73,7 @@ arg_inverts opened limit other _ _ _ h (literal_ (negative g _ _)) = absurd (ome
 arg_inverts opened limit other _ _ _ h (literal_ (truth g)) = absurd (omega (arith, clash h g))
 arg_inverts opened limit other _ _ _ h (literal_ (falsity g)) = absurd (omega (arith, clash h g))
 arg_inverts opened limit other _ _ _ h (literal_ (name g)) = absurd (omega (arith, clash h g))
-arg_inverts opened limit other _ _ _ h (arg {i = i} g ) = record { is = refl; stays = refl }
+arg_inverts opened limit other _ _ _ h (arg {i = i} g) = record { is = refl; stays = refl }
 arg_inverts opened limit other _ _ _ h (own g) = absurd (omega (arith, clash h g))
 arg_inverts opened limit other _ _ _ h (brackets g _ _) = absurd (omega (arith, clash h g))
 arg_inverts opened limit other _ _ _ h (negation g _ _ _) = absurd (omega (arith, clash h g))
@@ -102,7 +99,7 @@ own_inverts opened limit other _ _ _ h (literal_ (truth g)) = absurd (omega (ari
 own_inverts opened limit other _ _ _ h (literal_ (falsity g)) = absurd (omega (arith, clash h g))
 own_inverts opened limit other _ _ _ h (literal_ (name g)) = absurd (omega (arith, clash h g))
 own_inverts opened limit other _ _ _ h (arg g) = absurd (omega (arith, clash h g))
-own_inverts opened limit other _ _ _ h (own {i = i} g ) = record { is = refl; stays = refl }
+own_inverts opened limit other _ _ _ h (own {i = i} g) = record { is = refl; stays = refl }
 own_inverts opened limit other _ _ _ h (brackets g _ _) = absurd (omega (arith, clash h g))
 own_inverts opened limit other _ _ _ h (negation g _ _ _) = absurd (omega (arith, clash h g))
 own_inverts opened limit other _ _ _ h (recovery g _ _ _ _ _) = absurd (omega (arith, clash h g))
@@ -367,7 +364,7 @@ device_builds limit other v i n r =
     moved (λ a q. Content other limit DEVICE a i q) (device refl) r.is (omega (arith, r.stays))
 
 device_inverts : (limit : ℕ → ℕ) (other : ℕ → Mark) (v : RawBody) (i n : ℕ) → Content other limit DEVICE v i n → device_rest other limit v i n
-device_inverts limit other _ _ _ (device {i = i} g ) = record { is = refl; stays = refl }
+device_inverts limit other _ _ _ (device {i = i} g) = record { is = refl; stays = refl }
 device_inverts limit other _ _ _ (symbol g) = absurd (omega (arith, g))
 device_inverts limit other _ _ _ (var g _ _ _ _ _) = absurd (omega (arith, g))
 device_inverts limit other _ _ _ (event g _ _) = absurd (omega (arith, g))
@@ -390,7 +387,7 @@ symbol_builds limit other v i n r =
 
 symbol_inverts : (limit : ℕ → ℕ) (other : ℕ → Mark) (v : RawBody) (i n : ℕ) → Content other limit SYMBOL v i n → symbol_rest other limit v i n
 symbol_inverts limit other _ _ _ (device g) = absurd (omega (arith, g))
-symbol_inverts limit other _ _ _ (symbol {i = i} g ) = record { is = refl; stays = refl }
+symbol_inverts limit other _ _ _ (symbol {i = i} g) = record { is = refl; stays = refl }
 symbol_inverts limit other _ _ _ (var g _ _ _ _ _) = absurd (omega (arith, g))
 symbol_inverts limit other _ _ _ (event g _ _) = absurd (omega (arith, g))
 symbol_inverts limit other _ _ _ (derived g _ _) = absurd (omega (arith, g))
@@ -418,7 +415,7 @@ counter_inverts limit other _ _ _ (event g _ _) = absurd (omega (arith, g))
 counter_inverts limit other _ _ _ (derived g _ _) = absurd (omega (arith, g))
 counter_inverts limit other _ _ _ (signal g _ _) = absurd (omega (arith, g))
 counter_inverts limit other _ _ _ (fold g _ _ _ _ _ _ _ _ _) = absurd (omega (arith, g))
-counter_inverts limit other _ _ _ (counter {i = i} g ) = record { is = refl; stays = refl }
+counter_inverts limit other _ _ _ (counter {i = i} g) = record { is = refl; stays = refl }
 counter_inverts limit other _ _ _ (set g _ _) = absurd (omega (arith, g))
 counter_inverts limit other _ _ _ (register g _ _ _ _) = absurd (omega (arith, g))
 
@@ -573,11 +570,13 @@ register_stage tokens i = stage_at (AContent REGISTER) register_rest tokens i (�
 
 -- an event whose content begins with no `=`
 pub event_stage : (tokens : List Token) (i : ℕ) → (text tokens i ≡ mark.Sign EQUALS → ⊥) → Stage (AContent EVENT) extends tokens 1 i i event_rest
-event_stage tokens i h = record { so_far = record {
-  forward = omega arith;
-  build = λ limit enough other v n agrees r. event_builds limit other v i n r;
-  invert = λ limit other v n agrees x. inl (event_inverts limit other v i n (λ e. h (sym (agrees i (omega arith)) ∙ e)) x);
-} }
+event_stage tokens i h = record {
+  so_far = record {
+    forward = omega arith;
+    build = λ limit enough other v n agrees r. event_builds limit other v i n r;
+    invert = λ limit other v n agrees x. inl (event_inverts limit other v i n (λ e. h (sym (agrees i (omega arith)) ∙ e)) x);
+  };
+}
 
 derived_inverts : (limit : ℕ → ℕ) (other : ℕ → Mark) (v : RawBody) (i n : ℕ) → other i ≡ mark.Sign EQUALS → Content other limit EVENT v i n → Source other limit v (i + 1) n
 derived_inverts limit other _ _ _ h (device g) = absurd (omega (arith, g))
@@ -604,13 +603,21 @@ same_word e f = cc
 pub declaration_stage : (word : ℕ) (tokens : List Token) (i : ℕ) → text tokens i ≡ mark.Reserved word → Stage ADeclaration nothing tokens 0 i (i + 1) (declaration_rest word)
 declaration_stage word tokens i h = stage_from ADeclaration (declaration_rest word) tokens i (mark.Reserved word) h
     (λ limit other v n enough e r.
-      let e1 : r.middle ≡ i + 2 = omega (arith, r.first.next) in
-      let e2 : v ≡ record { name = r.value; body = r.second.value } = r.second.second.second.is in
-      moved (λ a q. Declaration other limit a i q)
-      (record { word = word; last = r.second.middle; begins = e; named = r.first.fits; content = subst (λ (q : ℕ). Content other limit word r.second.value q r.second.middle) e1 r.second.first; ends = r.second.second.first.fits; next = refl })
-      e2 (omega (arith, r.second.second.second.stays, r.second.second.first.next)))
+    let e1 : r.middle ≡ i + 2 = omega (arith, r.first.next) in
+    let e2 : v ≡ record { name = r.value; body = r.second.value } = r.second.second.second.is in
+    moved (λ a q. Declaration other limit a i q)
+    (record { word = word; last = r.second.middle; begins = e; named = r.first.fits; content = subst (λ (q : ℕ). Content other limit word r.second.value q r.second.middle) e1 r.second.first; ends = r.second.second.first.fits; next = refl })
+    e2 (omega (arith, r.second.second.second.stays, r.second.second.first.next)))
     (λ limit other v n e x.
-      let same : x.word ≡ word = same_word x.begins e in
-      record { value = v.name; middle = i + 2; first = record { fits = x.named; next = omega arith };
-        second = record { value = v.body; middle = x.last; first = subst (λ (q : ℕ). Content other limit q v.body (i + 2) x.last) same x.content;
-          second = record { value = tt; middle = x.last + 1; first = record { fits = x.ends; next = refl }; second = record { is = refl; stays = x.next } } } })
+    let same : x.word ≡ word = same_word x.begins e in
+    record {
+      value = v.name;
+      middle = i + 2;
+      first = record { fits = x.named; next = omega arith };
+      second = record {
+        value = v.body;
+        middle = x.last;
+        first = subst (λ (q : ℕ). Content other limit q v.body (i + 2) x.last) same x.content;
+        second = record { value = tt; middle = x.last + 1; first = record { fits = x.ends; next = refl }; second = record { is = refl; stays = x.next } };
+      };
+    })

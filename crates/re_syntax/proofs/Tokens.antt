@@ -1,22 +1,22 @@
-use Rattle.std.proofs.Common.{ℕ, suc, ◌+◌, ◌<◌, ◌≤◌, ◌≡◌, ◌⊎◌, inl, inr, Bool, true, false, List, length, Option, Some, None, Result, Ok, Err, IfOk, IfErr, MatchOption, refl, sym, subst, ◌∙◌, ap, arith, add-zero, lit≤}
+use Rattle.std.proofs.Common.{ℕ, ◌+◌, ◌<◌, ◌≤◌, ◌≡◌, Bool, true, List, length, Option, Some, None, Result, Ok, Err, IfOk, IfErr, MatchOption, refl, subst, arith, add-zero, lit≤}
 use Rattle.re_terms.specs.declared.token.Token.{Token}
 use Rattle.re_terms.specs.declared.token.Mark.{Mark}
 use Rattle.re_terms.specs.declared.token.Mark.TheVariants as mark
 use Rattle.re_syntax.specs.declared.stop.Stop.{Stop}
 use Rattle.re_syntax.specs.declared.stop.Stop.TheVariants as stop
 use Rattle.re_syntax.specs.Grammar.{operator_of}
-use Rattle.re_syntax.specs.Steps.{Language, text, IsEnough, nothing, joins, EndsLast, Exactly, Refusal, Accepts, Stops, StopsBehind, Misses, Then, One, Done, Single, Unfit, Beyond}
+use Rattle.re_syntax.specs.Steps.{Language, text, nothing, joins, EndsLast, Accepts, Stops, StopsBehind, Misses, Then, One, Done, Single, Unfit, Beyond}
 use Rattle.re_syntax.proofs.Steps.{no_more, SoFar, so_start, so_ends, so_stops, so_next, so_fails, one_exact, one_refused, done_exact, never_more, no_true, after_one, Completes, Follows, Includes}
 
 pub one_accepts : {V : Type 0} (P : Mark → V → Type 0) (tokens : List Token) (i : ℕ) (v : V) → i < length tokens → EndsLast tokens → (P mark.End v → ⊥)
-  → P (text tokens i) v → ((w : V) → P (text tokens i) w → w ≡ v) → Accepts (One P) nothing 0 tokens v i (i + 1)
+    → P (text tokens i) v → ((w : V) → P (text tokens i) w → w ≡ v) → Accepts (One P) nothing 0 tokens v i (i + 1)
 one_accepts {V} P tokens i v inside ends no_end h same = record {
   exact = one_exact P (text tokens) (i + 1 + 0) i v h same (omega arith);
   inside = ends i inside (λ e. no_end (subst (λ (m : Mark). P m v) e h));
 }
 
 pub one_misses : {V : Type 0} (P : Mark → V → Type 0) (tokens : List Token) (i : ℕ) (v : V) (m : Mark) → i < length tokens → P m v → ((w : V) → P (text tokens i) w → ⊥)
-  → Misses (One P) nothing tokens i (stop.Unexpected i)
+    → Misses (One P) nothing tokens i (stop.Unexpected i)
 one_misses P tokens i v m inside h none = record { told = (one_refused P (text tokens) i v m h none, inside) }
 
 -- what was read of these tokens from i to k, and what is left; it looked `ahead` marks ahead
@@ -31,14 +31,14 @@ one_longer {V} {P} {ends} {ahead} {tokens} {a} {k} {k'} e = let r = e.exact.read
 
 -- one phrase more
 pub next : {A V : Type 0} {X : Language V} {goes_on ends : Mark → Bool} {tokens : List Token} {ahead ahead' i k k' : ℕ} {Y : Language A} {Z : A → Language V} {a : A}
-  → Stage X goes_on tokens ahead i k (Then Y Z) → Accepts Y ends ahead' tokens a k k' → ahead ≤ ahead' → Follows ends Z goes_on → Stage X goes_on tokens ahead' i k' (Z a)
+    → Stage X goes_on tokens ahead i k (Then Y Z) → Accepts Y ends ahead' tokens a k k' → ahead ≤ ahead' → Follows ends Z goes_on → Stage X goes_on tokens ahead' i k' (Z a)
 next {A} {V} {X} {goes_on} {ends} {tokens} {ahead} {ahead'} {i} {k} {k'} {Y} {Z} {a} s e h f =
     let forward : k ≤ k' = e.exact.forward in
     record { so_far = so_next X goes_on (text tokens) (k + ahead) (k' + ahead') i k k' Y Z ends a s.so_far e.exact (omega arith) f }
 
 -- one mark more
 pub next_one : {A V : Type 0} {X : Language V} {goes_on ends : Mark → Bool} {tokens : List Token} {ahead i k k' : ℕ} {P : Mark → A → Type 0} {Z : A → Language V} {a : A}
-  → Stage X goes_on tokens ahead i k (Then (One P) Z) → Accepts (One P) ends 0 tokens a k k' → ahead ≤ 1 → Follows ends Z goes_on → Stage X goes_on tokens 0 i k' (Z a)
+    → Stage X goes_on tokens ahead i k (Then (One P) Z) → Accepts (One P) ends 0 tokens a k k' → ahead ≤ 1 → Follows ends Z goes_on → Stage X goes_on tokens 0 i k' (Z a)
 next_one {A} {V} {X} {goes_on} {ends} {tokens} {ahead} {i} {k} {k'} {P} {Z} {a} s e h f =
     let longer : k' ≡ k + 1 = one_longer e in
     record { so_far = so_next X goes_on (text tokens) (k + ahead) (k' + 0) i k k' (One P) Z ends a s.so_far e.exact (omega arith) f }
@@ -52,14 +52,14 @@ finish {V} {X} {goes_on} {tokens} {ahead} {i} {k} {v} s inside = record {
 
 -- the last phrase of a whole
 pub last_of : {V : Type 0} {X : Language V} {goes_on ends : Mark → Bool} {tokens : List Token} {ahead ahead' i k n : ℕ} {R : Language V} {v : V}
-  → Stage X goes_on tokens ahead i k R → Accepts R ends ahead' tokens v k n → ahead ≤ ahead' → Includes ends goes_on → Accepts X goes_on ahead' tokens v i n
+    → Stage X goes_on tokens ahead i k R → Accepts R ends ahead' tokens v k n → ahead ≤ ahead' → Includes ends goes_on → Accepts X goes_on ahead' tokens v i n
 last_of {V} {X} {goes_on} {ends} {tokens} {ahead} {ahead'} {i} {k} {n} {R} {v} s e h wider =
     let forward : k ≤ n = e.exact.forward in
     record { exact = so_ends X goes_on (text tokens) (k + ahead) (n + ahead') i k n v R ends s.so_far e.exact (omega arith) wider; inside = e.inside }
 
 -- a step may be told to look further ahead, and more may be said to go on with it
 pub farther : {V : Type 0} {X : Language V} {goes_on ends : Mark → Bool} {tokens : List Token} {ahead i n : ℕ} {v : V}
-  → Accepts X ends ahead tokens v i n → ahead ≤ 1 → Includes ends goes_on → Accepts X goes_on 1 tokens v i n
+    → Accepts X ends ahead tokens v i n → ahead ≤ 1 → Includes ends goes_on → Accepts X goes_on 1 tokens v i n
 farther {V} {X} {goes_on} {ends} {tokens} {ahead} {i} {n} {v} e h wider = last_of {ahead = 0} {ahead' = 1} (begin i) (raised e) (lit≤ tt) wider
   where
     raised : Accepts X ends ahead tokens v i n → Accepts X ends 1 tokens v i n
@@ -70,7 +70,7 @@ farther {V} {X} {goes_on} {ends} {tokens} {ahead} {i} {n} {v} e h wider = last_o
 
 -- the next phrase, which has no expression in it, is refused
 pub misses_in : {A V : Type 0} {X : Language V} {goes_on ends : Mark → Bool} {tokens : List Token} {ahead i k : ℕ} {Y : Language A} {Z : A → Language V} (s : Stop)
-  → Stage X goes_on tokens ahead i k (Then Y Z) → Misses Y ends tokens k s → ahead ≤ 1 → Follows ends Z goes_on → ((a : A) → Completes (Z a)) → Misses X goes_on tokens i s
+    → Stage X goes_on tokens ahead i k (Then Y Z) → Misses Y ends tokens k s → ahead ≤ 1 → Follows ends Z goes_on → ((a : A) → Completes (Z a)) → Misses X goes_on tokens i s
 misses_in stop.Memory g r h f c = record { told = tt }
 misses_in {A} {V} {X} {goes_on} {ends} {tokens} {ahead} {i} {k} {Y} {Z} (stop.Unexpected j) g r h f c =
     let reached : k ≤ j = r.told.0.reached in
@@ -80,7 +80,7 @@ misses_in (stop.TooDeep j) g r h f c = absurd r.told
 
 -- the last phrase, which has no expression in it, is refused
 pub misses_last : {V : Type 0} {X : Language V} {goes_on ends : Mark → Bool} {tokens : List Token} {ahead i k : ℕ} {R : Language V} (s : Stop)
-  → Stage X goes_on tokens ahead i k R → Misses R ends tokens k s → ahead ≤ 1 → Includes ends goes_on → Misses X goes_on tokens i s
+    → Stage X goes_on tokens ahead i k R → Misses R ends tokens k s → ahead ≤ 1 → Includes ends goes_on → Misses X goes_on tokens i s
 misses_last stop.Memory g r h f = record { told = tt }
 misses_last {V} {X} {goes_on} {ends} {tokens} {ahead} {i} {k} {R} (stop.Unexpected j) g r h f =
     let reached : k ≤ j = r.told.0.reached in
@@ -89,7 +89,7 @@ misses_last (stop.TooMany j) g r h f = absurd r.told
 misses_last (stop.TooDeep j) g r h f = absurd r.told
 
 pub stops_of_misses : {V : Type 0} {X : Language V} {goes_on : Mark → Bool} {Deep : ℕ → Type 0} {tokens : List Token} {i : ℕ} (s : Stop)
-  → Misses X goes_on tokens i s → ((j : ℕ) → Deep j → ⊥) → Stops X goes_on Deep tokens i s
+    → Misses X goes_on tokens i s → ((j : ℕ) → Deep j → ⊥) → Stops X goes_on Deep tokens i s
 stops_of_misses stop.Memory r none = record { told = tt; within = tt }
 stops_of_misses (stop.Unexpected j) r none = record { told = (r.told.0, r.told.1, none); within = tt }
 stops_of_misses (stop.TooMany j) r none = absurd r.told
@@ -97,8 +97,8 @@ stops_of_misses (stop.TooDeep j) r none = absurd r.told
 
 -- the next phrase is refused
 pub stops_in : {A V : Type 0} {X : Language V} {goes_on ends : Mark → Bool} {Inner Outer : ℕ → Type 0} {tokens : List Token} {ahead i k : ℕ} {Y : Language A} {Z : A → Language V} (s : Stop)
-  → Stage X goes_on tokens ahead i k (Then Y Z) → Stops Y ends Inner tokens k s → ahead ≤ 1 → Follows ends Z goes_on → ((a : A) → Completes (Z a))
-  → ((j : ℕ) → Inner j → Outer j) → ((j : ℕ) → Outer j → Inner j) → Stops X goes_on Outer tokens i s
+    → Stage X goes_on tokens ahead i k (Then Y Z) → Stops Y ends Inner tokens k s → ahead ≤ 1 → Follows ends Z goes_on → ((a : A) → Completes (Z a))
+    → ((j : ℕ) → Inner j → Outer j) → ((j : ℕ) → Outer j → Inner j) → Stops X goes_on Outer tokens i s
 stops_in stop.Memory g r h f c up down = record { told = tt; within = tt }
 stops_in {A} {V} {X} {goes_on} {ends} {Inner} {Outer} {tokens} {ahead} {i} {k} {Y} {Z} (stop.Unexpected j) g r h f c up down =
     let reached : k ≤ j = r.told.0.reached in
@@ -111,8 +111,8 @@ stops_in (stop.TooDeep j) g r h f c up down = record { told = (up j r.told.0, r.
 
 -- the next phrase, which a mark behind the start opens, is refused
 pub stops_behind : {A V : Type 0} {X : Language V} {goes_on ends : Mark → Bool} {Inner Outer : ℕ → Type 0} {tokens : List Token} {i k : ℕ} {Y : Language A} {Z : A → Language V} (s : Stop)
-  → Stage X goes_on tokens 0 i k (Then Y Z) → StopsBehind Y ends Inner tokens k s → i < k → Follows ends Z goes_on → ((a : A) → Completes (Z a))
-  → ((j : ℕ) → Inner j → Outer j) → ((j : ℕ) → Outer j → Inner j) → Stops X goes_on Outer tokens i s
+    → Stage X goes_on tokens 0 i k (Then Y Z) → StopsBehind Y ends Inner tokens k s → i < k → Follows ends Z goes_on → ((a : A) → Completes (Z a))
+    → ((j : ℕ) → Inner j → Outer j) → ((j : ℕ) → Outer j → Inner j) → Stops X goes_on Outer tokens i s
 stops_behind stop.Memory g r h f c up down = record { told = tt; within = tt }
 stops_behind {A} {V} {X} {goes_on} {ends} {Inner} {Outer} {tokens} {i} {k} {Y} {Z} (stop.Unexpected j) g r h f c up down =
     let reached : k ≤ j = r.told.0.reached in
@@ -124,8 +124,8 @@ stops_behind (stop.TooDeep j) g r h f c up down = record { told = (up j r.told.0
 
 -- the last phrase is refused
 pub stops_last : {V : Type 0} {X : Language V} {goes_on ends : Mark → Bool} {Inner Outer : ℕ → Type 0} {tokens : List Token} {ahead i k : ℕ} {R : Language V} (s : Stop)
-  → Stage X goes_on tokens ahead i k R → Stops R ends Inner tokens k s → ahead ≤ 1 → Includes ends goes_on
-  → ((j : ℕ) → Inner j → Outer j) → ((j : ℕ) → Outer j → Inner j) → Stops X goes_on Outer tokens i s
+    → Stage X goes_on tokens ahead i k R → Stops R ends Inner tokens k s → ahead ≤ 1 → Includes ends goes_on
+    → ((j : ℕ) → Inner j → Outer j) → ((j : ℕ) → Outer j → Inner j) → Stops X goes_on Outer tokens i s
 stops_last stop.Memory g r h f up down = record { told = tt; within = tt }
 stops_last {V} {X} {goes_on} {ends} {Inner} {Outer} {tokens} {ahead} {i} {k} {R} (stop.Unexpected j) g r h f up down =
     let reached : k ≤ j = r.told.0.reached in
@@ -157,11 +157,11 @@ none_of P Q (Some x) h f = absurd (f x refl)
 
 -- a phrase stands for a whole
 pub accepts_from : {V : Type 0} {X R : Language V} {goes_on : Mark → Bool} {tokens : List Token} {i n : ℕ} {v : V}
-  → SoFar X goes_on (text tokens) (i + 1) i i R → Accepts R goes_on 1 tokens v i n → Accepts X goes_on 1 tokens v i n
+    → SoFar X goes_on (text tokens) (i + 1) i i R → Accepts R goes_on 1 tokens v i n → Accepts X goes_on 1 tokens v i n
 accepts_from {V} {X} {R} {goes_on} {tokens} {i} {n} {v} s e =
     let forward : i ≤ n = e.exact.forward in
     record { exact = so_ends X goes_on (text tokens) (i + 1) (n + 1) i i n v R goes_on s e.exact (omega arith) no_more; inside = e.inside }
 
 pub stops_from : {V : Type 0} {X R : Language V} {goes_on : Mark → Bool} {Deep : ℕ → Type 0} {tokens : List Token} {i : ℕ} (s : Stop)
-  → SoFar X goes_on (text tokens) (i + 1) i i R → Stops R goes_on Deep tokens i s → Stops X goes_on Deep tokens i s
+    → SoFar X goes_on (text tokens) (i + 1) i i R → Stops R goes_on Deep tokens i s → Stops X goes_on Deep tokens i s
 stops_from s g r = stops_last {ahead = 1} s (record { so_far = g }) r (lit≤ tt) no_more (λ j d. d) (λ j d. d)

@@ -89,39 +89,39 @@ pub data Phrase : Type 0 where
 pub data Reads (at : ℕ → Mark) (limit : ℕ → ℕ) : Phrase → ℕ → RawExpr → ℕ → ℕ → Type 0 where
   -- Expr = "if" Expr "then" Expr "else" Expr | Or
   condition : {opened i j k n : ℕ} {c a b : RawExpr} → opened ≤ limit i → at i ≡ mark.Reserved IF → Reads at limit Expression (opened + 1) c (i + 1) j
-    → at j ≡ mark.Reserved THEN → Reads at limit Expression (opened + 1) a (j + 1) k
-    → at k ≡ mark.Reserved ELSE → Reads at limit Expression (opened + 1) b (k + 1) n → Reads at limit Expression opened (expr.If c a b) i n
+      → at j ≡ mark.Reserved THEN → Reads at limit Expression (opened + 1) a (j + 1) k
+      → at k ≡ mark.Reserved ELSE → Reads at limit Expression (opened + 1) b (k + 1) n → Reads at limit Expression opened (expr.If c a b) i n
   plain : {opened i n : ℕ} {e : RawExpr} → opened ≤ limit i → Reads at limit (Level 0) opened e i n → Reads at limit Expression opened e i n
   -- Or = And { "or" And }, And = Cmp { "and" Cmp }, Cmp = Sum [ comparison Sum ], Sum = Prod { ("+" | "-") Prod }, Prod = Prim { ("*" | "/" | "%") Prim }
   operands : {level opened i k n : ℕ} {l e : RawExpr} → level < 5 → Reads at limit (Level (level + 1)) opened l i k → Reads at limit (Further level l) opened e k n
-    → Reads at limit (Level level) opened e i n
+      → Reads at limit (Level level) opened e i n
   primary : {level opened i n : ℕ} {e : RawExpr} → level ≡ 5 → Reads at limit Primary opened e i n → Reads at limit (Level level) opened e i n
   -- operators of one level group to the left, and a comparison is no operand of a comparison
   last : {level opened i : ℕ} {l : RawExpr} → Reads at limit (Further level l) opened l i i
   again : {level opened i k n : ℕ} {l r e : RawExpr} {o : Op} → operator_of (at i) ≡ Some o → level_of o ≡ level → level ≢ 2
-    → Reads at limit (Level (level + 1)) opened r (i + 1) k → Reads at limit (Further level (expr.Bin o l r)) opened e k n
-    → Reads at limit (Further level l) opened e i n
+      → Reads at limit (Level (level + 1)) opened r (i + 1) k → Reads at limit (Further level (expr.Bin o l r)) opened e k n
+      → Reads at limit (Further level l) opened e i n
   once : {level opened i n : ℕ} {l r : RawExpr} {o : Op} → operator_of (at i) ≡ Some o → level_of o ≡ level → level ≡ 2
-    → Reads at limit (Level (level + 1)) opened r (i + 1) n → Reads at limit (Further level l) opened (expr.Bin o l r) i n
+      → Reads at limit (Level (level + 1)) opened r (i + 1) n → Reads at limit (Further level l) opened (expr.Bin o l r) i n
   -- Prim = Lit | "arg" | "self" | "(" Expr ")" | "not" "(" Expr ")" | "recover" "(" Expr "," Expr ")"
   --      | "fault" "(" NUMBER ")" | "size" "(" NAME ")" | "has" "(" NAME "," Expr ")", where a fault's number is from 100 to 999
   literal_ : {opened i n : ℕ} {v : RawLit} → Literal at v i n → Reads at limit Primary opened (expr.Lit v) i n
   arg : {opened i : ℕ} → at i ≡ mark.Reserved ARG → Reads at limit Primary opened expr.Arg i (i + 1)
   own : {opened i : ℕ} → at i ≡ mark.Reserved SELF → Reads at limit Primary opened expr.Own i (i + 1)
   brackets : {opened i n : ℕ} {e : RawExpr} → at i ≡ mark.Sign OPEN → Reads at limit Expression (opened + 1) e (i + 1) n → at n ≡ mark.Sign CLOSE
-    → Reads at limit Primary opened e i (n + 1)
+      → Reads at limit Primary opened e i (n + 1)
   negation : {opened i n : ℕ} {e : RawExpr} → at i ≡ mark.Reserved NOT → at (i + 1) ≡ mark.Sign OPEN → Reads at limit Expression (opened + 1) e (i + 2) n
-    → at n ≡ mark.Sign CLOSE → Reads at limit Primary opened (expr.Not e) i (n + 1)
+      → at n ≡ mark.Sign CLOSE → Reads at limit Primary opened (expr.Not e) i (n + 1)
   recovery : {opened i k n : ℕ} {a b : RawExpr} → at i ≡ mark.Reserved RECOVER → at (i + 1) ≡ mark.Sign OPEN → Reads at limit Expression (opened + 1) a (i + 2) k
-    → at k ≡ mark.Sign COMMA → Reads at limit Expression (opened + 1) b (k + 1) n → at n ≡ mark.Sign CLOSE
-    → Reads at limit Primary opened (expr.Recover a b) i (n + 1)
+      → at k ≡ mark.Sign COMMA → Reads at limit Expression (opened + 1) b (k + 1) n → at n ≡ mark.Sign CLOSE
+      → Reads at limit Primary opened (expr.Recover a b) i (n + 1)
   fault : {opened i code : ℕ} → at i ≡ mark.Reserved FAULT → at (i + 1) ≡ mark.Sign OPEN → at (i + 2) ≡ mark.Number code → 100 ≤ code → code ≤ 999
-    → at (i + 3) ≡ mark.Sign CLOSE → Reads at limit Primary opened (expr.Fault code) i (i + 4)
+      → at (i + 3) ≡ mark.Sign CLOSE → Reads at limit Primary opened (expr.Fault code) i (i + 4)
   size : {opened i : ℕ} {t : Listed ℕ} → at i ≡ mark.Reserved SIZE → at (i + 1) ≡ mark.Sign OPEN → at (i + 2) ≡ mark.Name t
-    → at (i + 3) ≡ mark.Sign CLOSE → Reads at limit Primary opened (expr.Size t) i (i + 4)
+      → at (i + 3) ≡ mark.Sign CLOSE → Reads at limit Primary opened (expr.Size t) i (i + 4)
   membership : {opened i n : ℕ} {t : Listed ℕ} {e : RawExpr} → at i ≡ mark.Reserved HAS → at (i + 1) ≡ mark.Sign OPEN → at (i + 2) ≡ mark.Name t
-    → at (i + 3) ≡ mark.Sign COMMA → Reads at limit Expression (opened + 1) e (i + 4) n → at n ≡ mark.Sign CLOSE
-    → Reads at limit Primary opened (expr.Has t e) i (n + 1)
+      → at (i + 3) ≡ mark.Sign COMMA → Reads at limit Expression (opened + 1) e (i + 4) n → at n ≡ mark.Sign CLOSE
+      → Reads at limit Primary opened (expr.Has t e) i (n + 1)
 
 -- the expression of a declaration, which is the first that is opened there
 abbrev pub ReadsWhole : (ℕ → Mark) → (ℕ → ℕ) → RawExpr → ℕ → ℕ → Type 0
@@ -130,13 +130,13 @@ ReadsWhole at limit e i n = Reads at limit Expression 1 e i n
 -- Ev = "changed" "(" NAME ")" | "map" "(" NAME "," Expr ")" | "filter" "(" NAME "," Expr ")" | "either" "(" NAME "," NAME ")"
 pub data Source (at : ℕ → Mark) (limit : ℕ → ℕ) : RawBody → ℕ → ℕ → Type 0 where
   changed : {i : ℕ} {t : Listed ℕ} → at i ≡ mark.Reserved CHANGED → at (i + 1) ≡ mark.Sign OPEN → at (i + 2) ≡ mark.Name t → at (i + 3) ≡ mark.Sign CLOSE
-    → Source at limit (body.Changed t) i (i + 4)
+      → Source at limit (body.Changed t) i (i + 4)
   mapped : {i n : ℕ} {t : Listed ℕ} {e : RawExpr} → at i ≡ mark.Reserved MAP → at (i + 1) ≡ mark.Sign OPEN → at (i + 2) ≡ mark.Name t → at (i + 3) ≡ mark.Sign COMMA
-    → ReadsWhole at limit e (i + 4) n → at n ≡ mark.Sign CLOSE → Source at limit (body.Map t e) i (n + 1)
+      → ReadsWhole at limit e (i + 4) n → at n ≡ mark.Sign CLOSE → Source at limit (body.Map t e) i (n + 1)
   filtered : {i n : ℕ} {t : Listed ℕ} {e : RawExpr} → at i ≡ mark.Reserved FILTER → at (i + 1) ≡ mark.Sign OPEN → at (i + 2) ≡ mark.Name t → at (i + 3) ≡ mark.Sign COMMA
-    → ReadsWhole at limit e (i + 4) n → at n ≡ mark.Sign CLOSE → Source at limit (body.Filter t e) i (n + 1)
+      → ReadsWhole at limit e (i + 4) n → at n ≡ mark.Sign CLOSE → Source at limit (body.Filter t e) i (n + 1)
   either : {i : ℕ} {t u : Listed ℕ} → at i ≡ mark.Reserved EITHER → at (i + 1) ≡ mark.Sign OPEN → at (i + 2) ≡ mark.Name t → at (i + 3) ≡ mark.Sign COMMA
-    → at (i + 4) ≡ mark.Name u → at (i + 5) ≡ mark.Sign CLOSE → Source at limit (body.Either t u) i (i + 6)
+      → at (i + 4) ≡ mark.Name u → at (i + 5) ≡ mark.Sign CLOSE → Source at limit (body.Either t u) i (i + 6)
 
 -- what stands between a declaration's name and its `;`, by the word that the declaration begins with
 pub data Content (at : ℕ → Mark) (limit : ℕ → ℕ) (word : ℕ) : RawBody → ℕ → ℕ → Type 0 where
@@ -144,7 +144,7 @@ pub data Content (at : ℕ → Mark) (limit : ℕ → ℕ) (word : ℕ) : RawBod
   symbol : {i : ℕ} → word ≡ SYMBOL → Content at limit word body.Symbol i i
   -- "var" NAME ":" Kind "=" Lit Region ";"
   var : {i j n r : ℕ} {k : Kind} {v : RawLit} → word ≡ VAR → at i ≡ mark.Sign COLON → kind_of (at (i + 1)) ≡ Some k → at (i + 2) ≡ mark.Sign EQUALS
-    → Literal at v (i + 3) j → Region at r j n → Content at limit word (body.Var k v r) i n
+      → Literal at v (i + 3) j → Region at r j n → Content at limit word (body.Var k v r) i n
   -- "event" NAME ":" Kind ";" | "event" NAME "=" Ev ";"
   event : {i : ℕ} {k : Kind} → word ≡ EVENT → at i ≡ mark.Sign COLON → kind_of (at (i + 1)) ≡ Some k → Content at limit word (body.Event k) i (i + 2)
   derived : {i n : ℕ} {b : RawBody} → word ≡ EVENT → at i ≡ mark.Sign EQUALS → Source at limit b (i + 1) n → Content at limit word b i n
@@ -152,13 +152,13 @@ pub data Content (at : ℕ → Mark) (limit : ℕ → ℕ) (word : ℕ) : RawBod
   signal : {i n : ℕ} {e : RawExpr} → word ≡ SIGNAL → at i ≡ mark.Sign EQUALS → ReadsWhole at limit e (i + 1) n → Content at limit word (body.Signal e) i n
   -- "fold" NAME ":" Kind "=" Lit "on" NAME "do" Expr Region ";"
   fold : {i j m n r : ℕ} {k : Kind} {v : RawLit} {t : Listed ℕ} {e : RawExpr} → word ≡ FOLD → at i ≡ mark.Sign COLON → kind_of (at (i + 1)) ≡ Some k
-    → at (i + 2) ≡ mark.Sign EQUALS → Literal at v (i + 3) j → at j ≡ mark.Reserved ON → at (j + 1) ≡ mark.Name t → at (j + 2) ≡ mark.Reserved DO
-    → ReadsWhole at limit e (j + 3) m → Region at r m n → Content at limit word (body.Fold k v t e r) i n
+      → at (i + 2) ≡ mark.Sign EQUALS → Literal at v (i + 3) j → at j ≡ mark.Reserved ON → at (j + 1) ≡ mark.Name t → at (j + 2) ≡ mark.Reserved DO
+      → ReadsWhole at limit e (j + 3) m → Region at r m n → Content at limit word (body.Fold k v t e r) i n
   counter : {i : ℕ} → word ≡ COUNTER → Content at limit word body.Counter i i
   set : {i : ℕ} {k : Kind} → word ≡ SET → at i ≡ mark.Sign COLON → kind_of (at (i + 1)) ≡ Some k → Content at limit word (body.Set k) i (i + 2)
   -- "register" NAME ":" Kind "=" Lit ";"
   register : {i n : ℕ} {k : Kind} {v : RawLit} → word ≡ REGISTER → at i ≡ mark.Sign COLON → kind_of (at (i + 1)) ≡ Some k → at (i + 2) ≡ mark.Sign EQUALS
-    → Literal at v (i + 3) n → Content at limit word (body.Register k v) i n
+      → Literal at v (i + 3) n → Content at limit word (body.Register k v) i n
 
 -- a declaration
 pub record Declaration (at : ℕ → Mark) (limit : ℕ → ℕ) (d : RawDecl) (i n : ℕ) : Type 0 where

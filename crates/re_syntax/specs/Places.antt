@@ -36,17 +36,17 @@ StandsAt tokens number byte = (token : Token) × (slice_get tokens number ≡ So
 -- an event's source up to its expression
 pub data SourceHead (at : ℕ → Mark) : ℕ → ℕ → Type 0 where
   mapped : {i : ℕ} {t : Listed ℕ} → at i ≡ mark.Reserved MAP → at (i + 1) ≡ mark.Sign OPEN → at (i + 2) ≡ mark.Name t → at (i + 3) ≡ mark.Sign COMMA
-    → SourceHead at i (i + 4)
+      → SourceHead at i (i + 4)
   filtered : {i : ℕ} {t : Listed ℕ} → at i ≡ mark.Reserved FILTER → at (i + 1) ≡ mark.Sign OPEN → at (i + 2) ≡ mark.Name t → at (i + 3) ≡ mark.Sign COMMA
-    → SourceHead at i (i + 4)
+      → SourceHead at i (i + 4)
 
 -- what stands between a declaration's name and its expression, by the word that the declaration begins with
 pub data ContentHead (at : ℕ → Mark) (word : ℕ) : ℕ → ℕ → Type 0 where
   derived : {i s : ℕ} → word ≡ EVENT → at i ≡ mark.Sign EQUALS → SourceHead at (i + 1) s → ContentHead at word i s
   signal : {i : ℕ} → word ≡ SIGNAL → at i ≡ mark.Sign EQUALS → ContentHead at word i (i + 1)
   fold : {i j : ℕ} {t : Listed ℕ} {k : Kind} {v : RawLit} → word ≡ FOLD → at i ≡ mark.Sign COLON → kind_of (at (i + 1)) ≡ Some k
-    → at (i + 2) ≡ mark.Sign EQUALS → Literal at v (i + 3) j → at j ≡ mark.Reserved ON → at (j + 1) ≡ mark.Name t → at (j + 2) ≡ mark.Reserved DO
-    → ContentHead at word i (j + 3)
+      → at (i + 2) ≡ mark.Sign EQUALS → Literal at v (i + 3) j → at j ≡ mark.Reserved ON → at (j + 1) ≡ mark.Name t → at (j + 2) ≡ mark.Reserved DO
+      → ContentHead at word i (j + 3)
 
 -- a declaration up to its expression
 pub record Head (at : ℕ → Mark) (i s : ℕ) : Type 0 where

@@ -1,6 +1,6 @@
 -- What the reader of declarations answers.
 -- Read against: `device a;` and the end are one declaration; `device` and the end are refused at number 1.
-use Rattle.std.specs.Prelude.{ℕ, ◌<◌, ◌≤◌, ◌≡◌, ◌&&◌, Bool, true, List, length, nat_le}
+use Rattle.std.specs.Prelude.{ℕ, ◌<◌, ◌≤◌, ◌≡◌, true, List, length}
 use Rattle.std.specs.List.{list_all}
 use Rattle.re_terms.specs.Listed.{Listed}
 use Rattle.re_terms.specs.Trees.{is_declaration, raw_depth}

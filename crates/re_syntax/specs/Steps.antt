@@ -72,7 +72,7 @@ pub record Exactly {V : Type 0} (X : Language V) (goes_on : Mark → Bool) (at :
   pub forward : i ≤ n
   pub read : (limit : ℕ → ℕ) → IsEnough limit → (other : ℕ → Mark) → Agrees n at other → X other limit v i n
   pub only : (limit : ℕ → ℕ) (other : ℕ → Mark) (w : V) (m : ℕ) → Agrees seen at other → X other limit w i m
-    → ((w ≡ v) × (m ≡ n)) ⊎ ((goes_on (other m) ≡ true) × (m < n))
+      → ((w ≡ v) × (m ≡ n)) ⊎ ((goes_on (other m) ≡ true) × (m < n))
 
 -- why a step is refused at a mark: it fits nowhere, or it opens too many expressions
 pub data Cause : Type 0 where
@@ -96,9 +96,9 @@ pub record Refusal {V : Type 0} (X : Language V) (goes_on : Mark → Bool) (at :
   pub ahead : List Mark
   pub some : 0 < length ahead
   pub begun : (limit : ℕ → ℕ) → IsRoomy j limit → (other : ℕ → Mark) (n : ℕ) → Agrees (fitting cause j) at other
-    → Holds other (fitting cause j) ahead n → X other limit value i n
+      → Holds other (fitting cause j) ahead n → X other limit value i n
   pub ended : (limit : ℕ → ℕ) → IsRefusedUnder cause j limit → (other : ℕ → Mark) (w : V) (m : ℕ) → Agrees (j + 1) at other → X other limit w i m
-    → (goes_on (other m) ≡ true) × (m < fitting cause j)
+      → (goes_on (other m) ≡ true) × (m < fitting cause j)
 
 -- what a stop says of a step from place i that reads no expression
 abbrev pub MissAnswer : {V : Type 0} → Language V → (Mark → Bool) → List Token → ℕ → Stop → Type 0

@@ -20,13 +20,7 @@ fn declaring_word(tokens: &[Token], i: usize) -> Option<u8>
         (λ w. (text tokens.now i ≡ mark.Reserved w) × (w < 9)) }
 {
     match mark(tokens, i) {
-        Mark::Reserved(word) => {
-            if *word <= REGISTER {
-                Some(*word)
-            } else {
-                None
-            }
-        }
+        Mark::Reserved(word) => { if *word <= REGISTER { Some(*word) } else { None } }
         _ => None,
     }
 }

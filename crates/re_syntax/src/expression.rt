@@ -106,12 +106,7 @@ fn operands(
 
 /// Reads a sum, or two that are compared.
 #[cycle(expressions)]
-fn comparison(
-    alloc: Global,
-    tokens: &[Token],
-    i: usize,
-    opened: u8,
-) -> Result<(Kept, usize), Stop>
+fn comparison(alloc: Global, tokens: &[Token], i: usize, opened: u8) -> Result<(Kept, usize), Stop>
     requires inside { i < length tokens.now }
     requires ends { EndsLast tokens.now }
     requires opened { opened ≤ 128 }

@@ -12,8 +12,6 @@ mod marks;
 mod parser;
 mod source;
 mod stop;
-#[cfg(test)]
-mod tests;
 
 pub use fault::SyntaxFault;
 pub use parser::parse;

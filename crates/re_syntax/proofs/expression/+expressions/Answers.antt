@@ -1,12 +1,10 @@
-use Rattle.std.proofs.Common.{ℕ, ◌+◌, ◌<◌, ◌≤◌, ◌≡◌, length, refl, sym, ap, ◌∙◌, lit≤, lit<, arith}
+use Rattle.std.proofs.Common.{◌+◌, ◌<◌, length, lit≤, lit<, arith}
 use Rattle.std.proofs.lemmas.Result.{err_from_is_err_and}
-use Rattle.re_terms.specs.declared.token.Mark.TheVariants as mark
-use Rattle.re_syntax.specs.Steps.{text, nothing, joins, Done, FirstName, OnlyName, KindPart, StartPart}
-use Rattle.re_syntax.proofs.Steps.{after_nothing, after_one, never_more, no_more, done_completes, one_completes, then_completes}
-use Rattle.re_syntax.proofs.Tokens.{begin, next, next_one, finish, last_of, farther, misses_in, misses_last, stops_of_misses, stops_in, stops_behind, stops_last, after_mark, ok_map, err_map}
-use Rattle.re_syntax.proofs.Leaves.{mark_completes, name_completes, kind_completes, code_completes, literal_completes, region_completes, first_name_together, only_name_together, kind_together, start_together, leaf_stage, unwritten_accepts, written_accepts, region_misses, number_accepts, truth_accepts, falsity_accepts, name_accepts, negative_accepts, negative_misses, literal_misses}
-use Rattle.re_syntax.proofs.Rules.{arg_stage, own_stage, brackets_stage, negation_stage, recovery_stage, fault_stage, size_stage, membership_stage, changed_stage, mapped_stage, filtered_stage, either_stage, device_stage, symbol_stage, counter_stage, var_stage, event_stage, signal_stage, fold_stage, set_stage, register_stage, derived_stage, declaration_stage}
-use Rattle.re_syntax.proofs.Levels.{expression_completes, further_completes, condition_stage, plain_stage, tightest_stage, operands_stage, after_operand, joins_less, again_stage, ended_accepts, once_stage, after_second, no_close, no_comma, no_then, no_else, no_in, no_semicolon}
+use Rattle.re_syntax.proofs.Steps.{after_nothing, never_more, done_completes, then_completes}
+use Rattle.re_syntax.proofs.Tokens.{next, next_one, finish, last_of, farther, misses_in, stops_of_misses, stops_in, stops_behind, stops_last, after_mark, ok_map, err_map}
+use Rattle.re_syntax.proofs.Leaves.{mark_completes, first_name_together}
+use Rattle.re_syntax.proofs.Rules.{brackets_stage, negation_stage, recovery_stage, membership_stage}
+use Rattle.re_syntax.proofs.Levels.{expression_completes, further_completes, condition_stage, plain_stage, tightest_stage, operands_stage, after_operand, again_stage, ended_accepts, once_stage, after_second, no_close, no_comma, no_then, no_else}
 use Rattle.re_syntax.proofs.Levels.{after_done, too_many, operator_inside}
 use Rattle.std.proofs.Common.{rules}
 use Rattle.re_syntax.proofs.Tokens.{none_of, stops_from, accepts_from}
@@ -216,12 +214,14 @@ chain-returns-in_err-left-clause-stop t c =
     rw (p.1, p.2) (record { told = tt; within = tt })
 
 pub chain-operators-preserved : goal.chain-operators-preserved
-chain-operators-preserved t c = record { inside = c.in_ok-right.ensures.ok.accepts.inside; before = (let a = c.in_ok-right.ensures.ok.accepts.exact.forward in let b = c.operators.invariant.before in omega (arith, a, b));
-    read = (expr.Bin c.in-Some.op c.operators.invariant.read.0 c.in_ok-right.ensures.ok.expression, (c.in_ok-left.ensures _ _ c.operators.invariant.read.1.0 c.in_ok-right.ensures.ok.stands, next (again_stage c.args.opened c.args.level c.args.tokens.now c.args.i _ _ _ c.in-Some.ensures.0 c.in-Some.ensures.1 c.requires.chained c.operators.invariant.read.1.1) c.in_ok-right.ensures.ok.accepts (lit≤ tt) (after_operand c.args.opened c.args.level (λ a. expr.Bin c.in-Some.op c.operators.invariant.read.0 a)))) }
+chain-operators-preserved t c = record {
+  inside = c.in_ok-right.ensures.ok.accepts.inside;
+  before = (let a = c.in_ok-right.ensures.ok.accepts.exact.forward in let b = c.operators.invariant.before in omega (arith, a, b));
+  read = (expr.Bin c.in-Some.op c.operators.invariant.read.0 c.in_ok-right.ensures.ok.expression, (c.in_ok-left.ensures _ _ c.operators.invariant.read.1.0 c.in_ok-right.ensures.ok.stands, next (again_stage c.args.opened c.args.level c.args.tokens.now c.args.i _ _ _ c.in-Some.ensures.0 c.in-Some.ensures.1 c.requires.chained c.operators.invariant.read.1.1) c.in_ok-right.ensures.ok.accepts (lit≤ tt) (after_operand c.args.opened c.args.level (λ a. expr.Bin c.in-Some.op c.operators.invariant.read.0 a))));
+}
 
 pub chain-operators-smaller : goal.chain-operators-smaller
 chain-operators-smaller t c = (let a = c.in_ok-right.ensures.ok.accepts.exact.forward in let b = c.in_ok-right.ensures.ok.accepts.inside in omega (arith, a, b))
 
 pub chain-returns-clause-ok : goal.chain-returns-clause-ok
 chain-returns-clause-ok t c = record { expression = _; stands = c.operators.invariant.read.1.0; accepts = ended_accepts c.args.opened c.args.level c.args.tokens.now c.args.i _ _ (none_of _ _ c.operator.result c.operator.ensures c.in_default.not-Some) c.operators.invariant.inside c.operators.invariant.read.1.1 }
-

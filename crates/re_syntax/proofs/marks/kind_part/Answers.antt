@@ -1,10 +1,8 @@
-use Rattle.std.proofs.Common.{ℕ, ◌+◌, ◌<◌, ◌≤◌, ◌≡◌, length, refl, sym, ap, ◌∙◌, lit≤, lit<, arith}
+use Rattle.std.proofs.Common.{lit≤}
 use Rattle.std.proofs.lemmas.Result.{err_from_is_err_and}
-use Rattle.re_terms.specs.declared.token.Mark.TheVariants as mark
-use Rattle.re_syntax.specs.Steps.{text, nothing, joins, Done, FirstName, OnlyName, KindPart, StartPart}
-use Rattle.re_syntax.proofs.Steps.{after_nothing, after_one, never_more, no_more, done_completes, one_completes, then_completes}
-use Rattle.re_syntax.proofs.Tokens.{begin, next, next_one, finish, last_of, farther, misses_in, misses_last, stops_of_misses, stops_in, stops_last, after_mark, ok_map, err_map}
-use Rattle.re_syntax.proofs.Leaves.{mark_completes, name_completes, kind_completes, code_completes, literal_completes, region_completes}
+use Rattle.re_syntax.proofs.Steps.{after_nothing, never_more}
+use Rattle.re_syntax.proofs.Tokens.{begin, next, last_of, misses_in, misses_last, ok_map, err_map}
+use Rattle.re_syntax.proofs.Leaves.{kind_completes}
 use Rattle.re_syntax.proofs.marks.kind_part.Goals as goal
 
 pub returns-in_err-behind-clause-stop : goal.returns-in_err-behind-clause-stop

@@ -2,12 +2,6 @@ use Rattle.std.proofs.Common.{ℕ, ◌≡◌, refl}
 use Rattle.re_terms.specs.declared.token.Mark.{Mark}
 use Rattle.re_terms.specs.declared.token.Mark.TheVariants as mark
 use Rattle.re_syntax.proofs.Tokens.{one_accepts, one_misses}
-use Rattle.re_syntax.proofs.Leaves.{name_completes}
-use Rattle.re_syntax.proofs.Levels.{no_in}
-use Rattle.re_syntax.proofs.Rules.{clash}
-use Rattle.re_syntax.proofs.Heads.{reading}
-use Rattle.re_syntax.proofs.Depths.{misses_deep}
-use Rattle.re_syntax.proofs.Programs.{progress_start}
 use Rattle.re_syntax.proofs.marks.word.Goals as goal
 
 no_word : (word : ℕ) → mark.End ≡ mark.Reserved word → ⊥
