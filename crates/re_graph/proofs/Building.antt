@@ -1,6 +1,6 @@
 -- A graph that is built up to a place.
 use Rattle.std.proofs.Common.{◌≡◌, ◌<◌, ◌≤◌, ◌+◌, ◌==◌, ◌⊎◌, inl, inr, ℕ, Bool, true, false, ◌&&◌, ◌||◌, List, [], ◌∷◌, ◌++◌, map, length, take, get_or, refl, sym, ap, subst, ◌∙◌, arith}
-use Rattle.std.specs.Prelude.{nat_lt, Option, None, Some}
+use Rattle.std.specs.Prelude.{nat_lt, None, Some}
 use Rattle.std.specs.Option.{option_map, option_map_or}
 use Rattle.std.specs.List.{All, list_any, range_with_len, slice_get}
 use Rattle.std.proofs.lemmas.Bool.{cases_eq, eq-eqb, ne_eqb, lt-ltb, le-ltb, ltb-true, ltb-false}
@@ -12,7 +12,7 @@ use Rattle.std.proofs.lemmas.List.FromFn.{get_or-map-range_with_len, length-map-
 use Rattle.std.proofs.lemmas.Option.{slice_get-map, slice_get-get_or}
 use Rattle.re_terms.specs.declared.program.Decl.{Decl}
 use Rattle.re_terms.specs.Listed.{Listed, plain}
-use Rattle.re_terms.specs.Dependencies.{PlainNode, node_of, graph_of, inputs_at, region_at, IsOrdered, HasRegions, level_above, level}
+use Rattle.re_terms.specs.Dependencies.{PlainNode, node_of, graph_of, inputs_at, region_at, IsOrdered, level_above, level}
 use Rattle.re_graph.specs.Footprint.{is_region, is_supported}
 use Rattle.re_graph.specs.Kept.{has_bit, is_among, list_at, IsKept, IsOrderBy, comes_before}
 use Rattle.re_graph.proofs.Lists.{map_same, list_any_same}

@@ -1,18 +1,18 @@
 -- Reaching by the least id first: what was found, and what is due.
-use Rattle.std.proofs.Common.{◌≡◌, ◌<◌, ◌≤◌, ◌+◌, ◌-◌, ◌==◌, ◌⊎◌, inl, inr, ℕ, zero, suc, Bool, true, false, ◌&&◌, ◌||◌, cond, List, [], ◌∷◌, ◌++◌, map, length, get_or, refl, sym, ap, subst, ◌∙◌, arith}
+use Rattle.std.proofs.Common.{◌≡◌, ◌<◌, ◌≤◌, ◌+◌, ◌==◌, ◌⊎◌, inl, inr, ℕ, zero, suc, Bool, true, false, ◌&&◌, ◌||◌, cond, List, [], ◌∷◌, ◌++◌, length, get_or, refl, sym, ap, ◌∙◌, arith}
 use Rattle.std.specs.Prelude.{filter, nat_lt, nat_le}
 use Rattle.std.specs.List.{All, list_any, range_with_len}
 use Rattle.std.specs.Ordering.{nat_cmp, is_gt}
 use Rattle.std.specs.BTreeMap.{is_at}
 use Rattle.std.specs.BTreeSet.{BTreeSet, contains}
-use Rattle.std.proofs.lemmas.Bool.{cases_eq, eq-eqb, ne_eqb, eqb-true, lt-ltb, le-ltb, le-leb, lt-leb, ltb-true, ltb-false, leb-true, and_parts, leb-false, both_ways}
+use Rattle.std.proofs.lemmas.Bool.{cases_eq, eq-eqb, ne_eqb, le-ltb, le-leb, ltb-true, ltb-false, leb-true, and_parts, leb-false, both_ways}
 use Rattle.std.proofs.Math.Bool.{or_assoc}
-use Rattle.std.proofs.lemmas.List.Elements.{All-weaker, All-contains}
+use Rattle.std.proofs.lemmas.List.Elements.{All-weaker}
 use Rattle.std.proofs.lemmas.List.Folds.{list_any_none}
-use Rattle.re_terms.specs.Dependencies.{PlainNode, inputs_at, IsOrdered, is_reached, reach, ids}
+use Rattle.re_terms.specs.Dependencies.{PlainNode, inputs_at, IsOrdered, is_reached, reach}
 use Rattle.re_graph.specs.Kept.{is_among}
-use Rattle.re_graph.proofs.Lists.{list_any_same, list_any-or, list_any-never}
-use Rattle.re_graph.proofs.Own.{is_reached-own, is_reached-none}
+use Rattle.re_graph.proofs.Lists.{list_any_same, list_any-or}
+use Rattle.re_graph.proofs.Own.{is_reached-own}
 use Rattle.re_graph.proofs.Ranges.{filter_range-takes, filter_range-gap, length-filter_range}
 
 -- a declaration is touched, or has an input below the place that is reached

@@ -1,9 +1,9 @@
 -- A region is behind a declaration where it is its own, or behind one of its inputs.
-use Rattle.std.proofs.Common.{◌≡◌, ◌<◌, ◌==◌, ℕ, Bool, true, false, ◌&&◌, ◌||◌, List, get_or, refl, sym, ap, ◌∙◌, length, ◌+◌, ◌≤◌, arith}
+use Rattle.std.proofs.Common.{◌≡◌, ◌<◌, ◌==◌, ℕ, Bool, true, false, ◌&&◌, ◌||◌, List, get_or, refl, sym, ap, ◌∙◌, length, arith}
 use Rattle.std.specs.Prelude.{Option, None, Some, filter}
 use Rattle.std.specs.Option.{is_some}
 use Rattle.std.specs.List.{All, list_any, range_with_len}
-use Rattle.re_terms.specs.Dependencies.{PlainNode, inputs_at, region_at, ids, IsOrdered, is_behind, support, reach, is_reached}
+use Rattle.re_terms.specs.Dependencies.{PlainNode, inputs_at, region_at, ids, IsOrdered, is_behind, reach, is_reached}
 use Rattle.re_graph.specs.Footprint.{is_region, is_supported, footprint}
 use Rattle.re_graph.specs.Kept.{has_bit}
 use Rattle.std.proofs.lemmas.List.Elements.{filter_agree, All-filter}

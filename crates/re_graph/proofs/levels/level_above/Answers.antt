@@ -1,4 +1,4 @@
-use Rattle.std.proofs.Common.{◌≡◌, ◌<◌, ◌≤◌, ◌+◌, max, get_or, arith}
+use Rattle.std.proofs.Common.{◌≡◌, ◌<◌, ◌+◌, max, get_or, arith}
 use Rattle.re_graph.proofs.Steps.{level_step}
 use Rattle.re_graph.proofs.levels.level_above.Goals as goal
 use Rattle.re_graph.proofs.levels.level_above.Goals.{then-above-level, else-above-level}

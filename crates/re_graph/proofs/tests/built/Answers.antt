@@ -1,8 +1,7 @@
-use Rattle.std.proofs.Common.{◌≡◌, ◌<◌, ◌≤◌, ◌+◌, ℕ, [], length, subst, sym, ap, below_more, arith, ◌∙◌}
+use Rattle.std.proofs.Common.{◌≡◌, ◌<◌, ◌≤◌, ℕ, subst, ap, below_more, arith, ◌∙◌}
 use Rattle.std.specs.Prelude.{Some, unwrap_or}
 use Rattle.std.specs.List.{All}
-use Rattle.std.proofs.lemmas.List.{length-map}
-use Rattle.re_terms.specs.Dependencies.{graph_of, node_of, inputs_at, region_at}
+use Rattle.re_terms.specs.Dependencies.{graph_of, inputs_at, region_at}
 use Rattle.re_graph.specs.Kept.{plain_node}
 use Rattle.re_graph.proofs.Building.{here, at_end}
 use Rattle.re_graph.proofs.Own.{IsOrdered-from, HasRegions-from}

@@ -1,5 +1,5 @@
 -- The graph is built up to the declaration that is read next.
-use Rattle.std.proofs.Common.{◌≡◌, map}
+use Rattle.std.proofs.Common.{map}
 use Rattle.re_terms.specs.Dependencies.{graph_of}
 use Rattle.re_graph.specs.Kept.{plain_node}
 use Rattle.re_graph.proofs.Building.{IsBuilding}

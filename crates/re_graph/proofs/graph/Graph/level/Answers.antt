@@ -1,7 +1,6 @@
-use Rattle.std.proofs.Common.{◌≡◌, ◌<◌, length, get_or, map, subst, ap, ◌∙◌, arith, refl}
-use Rattle.std.specs.List.{range_with_len}
+use Rattle.std.proofs.Common.{length, get_or, subst, ap, ◌∙◌, arith}
 use Rattle.std.proofs.lemmas.List.FromFn.{length-map-range_with_len, get_or-map-range_with_len}
-use Rattle.re_terms.specs.Dependencies.{level, ids}
+use Rattle.re_terms.specs.Dependencies.{level}
 use Rattle.re_graph.specs.Kept.{IsKept}
 use Rattle.re_graph.proofs.graph.Graph.level.Goals as goal
 

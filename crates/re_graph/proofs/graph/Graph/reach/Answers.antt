@@ -1,17 +1,17 @@
 -- Each step finds the least id that is pending, and puts its dependents in its place.
-use Rattle.std.proofs.Common.{◌≡◌, ◌<◌, ◌≤◌, ◌+◌, ◌-◌, ◌==◌, ◌||◌, ◌++◌, ◌∷◌, [], ℕ, Bool, false, cond, List, length, get_or, refl, sym, ap, subst, ◌∙◌, arith, rules}
+use Rattle.std.proofs.Common.{◌≡◌, ◌<◌, ◌≤◌, ◌+◌, ◌-◌, ◌==◌, ◌||◌, ◌++◌, ◌∷◌, [], ℕ, false, cond, length, get_or, refl, sym, ap, subst, ◌∙◌, arith}
 use Rattle.std.specs.Ordering.{nat_cmp}
 use Rattle.std.specs.BTreeMap.{is_at}
 use Rattle.std.specs.BTreeSet.{contains}
 use Rattle.std.specs.List.{list_any}
 use Rattle.std.proofs.lemmas.List.{get_or_default, length_push}
-use Rattle.re_terms.specs.Listed.{Listed, plain}
-use Rattle.re_terms.specs.Dependencies.{PlainNode, inputs_at, reach}
-use Rattle.re_graph.specs.Kept.{IsKept, is_among, list_at}
+use Rattle.re_terms.specs.Listed.{plain}
+use Rattle.re_terms.specs.Dependencies.{inputs_at, reach}
+use Rattle.re_graph.specs.Kept.{IsKept, is_among}
 use Rattle.re_graph.proofs.Lists.{plain_is}
 use Rattle.re_graph.proofs.Own.{inputs_at-none}
 use Rattle.re_graph.proofs.Steps.{is_at-key}
-use Rattle.re_graph.proofs.Reaching.{IsReaching, IsLeast, Popped, least_from, empty_from, popped, reach_step, reach_all, reach_none, reach_room}
+use Rattle.re_graph.proofs.Reaching.{IsReaching, least_from, empty_from, popped, reach_step, reach_all, reach_none, reach_room}
 use Rattle.re_graph.proofs.graph.Graph.reach.Goals as goal
 
 pub reaching-init : goal.reaching-init
