@@ -1,9 +1,10 @@
 //! The command: its words and standard input go in, answers go out to standard output.
 #![tactic(auto)]
 
-ghost use Rattle.std.specs.Prelude.{◌≡◌, drop, IfOk};
+ghost use Rattle.std.specs.Prelude.{◌≡◌, [], drop, IfOk};
 ghost use Rattle.std.specs.Vec.Iter.{into_iter_items};
 ghost use Rattle.rescala.specs.Streams.{seen_of};
+ghost use Rattle.re_tool.specs.Answers.{status_line};
 ghost use Rattle.re_tool.specs.Session.{Finishes};
 
 mod streams;
@@ -43,7 +44,7 @@ fn read_words(rt: &HostRuntime) -> Result<Vec<String>, AllocError> {
 /// Says that there is no memory, and answers the status that this ends with: that of memory, or
 /// that of output where the line could not be said.
 fn out_of_memory(out: &mut StandardStreams) -> Status
-    ensures { Finishes (seen_of out.old) (seen_of out.new) Status.Memory result }
+    ensures { Finishes (seen_of out.old) (seen_of out.new) (status_line [] Status.Memory) Status.Memory result }
 {
     match say_all(out, b"rescala: no memory\n".as_slice()) {
         Ok(()) => Status::Memory,
