@@ -22,6 +22,7 @@ o >>= f = option_and_then f o
 abbrev pub only_if : {A : Type 0} → Bool → A → Option A
 only_if holds x = if holds then Some x else None
 
+-- two kinds are the same
 abbrev pub kind_eq : Kind → Kind → Bool
 kind_eq kind.Int kind.Int = true
 kind_eq kind.Bool kind.Bool = true
@@ -40,18 +41,22 @@ pub data Sort : Type 0 where
   -- an event, by the kind of its value
   Event : (kind : Kind) → Sort
 
+-- the name is a symbol
 abbrev pub is_symbol_sort : Sort → Bool
 is_symbol_sort (Symbol number) = true
 is_symbol_sort s = false
 
+-- the kind of the word that a name stands for, where it stands for one
 abbrev pub value_kind_of : Option Sort → Option Kind
 value_kind_of (Some (Value k)) = Some k
 value_kind_of s = None
 
+-- the kind of a set's elements
 abbrev pub set_kind_of : Option Sort → Option Kind
 set_kind_of (Some (Set k)) = Some k
 set_kind_of s = None
 
+-- the kind of an event's value
 abbrev pub event_kind_of : Option Sort → Option Kind
 event_kind_of (Some (Event k)) = Some k
 event_kind_of s = None

@@ -9,4 +9,6 @@ pub mod Programs
 pub mod Signal
 pub mod Tokens
 pub mod Trees
+pub mod Views
+pub mod WordOrder
 pub mod World

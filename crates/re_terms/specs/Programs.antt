@@ -15,6 +15,7 @@ use Rattle.re_terms.specs.declared.program.Body.TheVariants as body
 use Rattle.re_terms.specs.declared.program.Decl.{Decl}
 use Rattle.re_terms.specs.declared.program.Program.{Program}
 
+-- a device
 abbrev pub is_device_body : Body → Bool
 is_device_body body.Device = true
 is_device_body b = false
@@ -22,6 +23,7 @@ is_device_body b = false
 abbrev pub is_device : Decl → Bool
 is_device d = is_device_body d.body
 
+-- a symbol
 abbrev pub is_symbol_body : Body → Bool
 is_symbol_body body.Symbol = true
 is_symbol_body b = false
@@ -50,6 +52,7 @@ is_literal_word symbols (word.Bool b) = true
 is_literal_word symbols (word.Sym number) = nat_lt number symbols
 is_literal_word symbols (word.Fault code) = is_fault_code code
 
+-- one case for each form of expression
 abbrev pub literals_step : ℕ → Expr-F Bool → Bool
 literals_step symbols (Lit w) = is_literal_word symbols w
 literals_step symbols (Not operand) = operand
