@@ -1,6 +1,6 @@
 -- What is read of replicated cells.
 -- Read against: rows with increments 3 and 2 and decrements 1 have the word 4; a set with the pairs of 4 by two dots and of 9 by one has size 2, and has 4 and 9.
-use Rattle.std.specs.Prelude.{ℕ, Bool, false, pos, ◌-ℤ◌, List, length, Option, None, Some, slice_get}
+use Rattle.std.specs.Prelude.{ℕ, Bool, false, pos, ◌-ℤ◌, length, Option, Some, slice_get}
 use Rattle.std.specs.List.{sum, list_any}
 use Rattle.re_terms.specs.Arithmetic.{whole}
 use Rattle.re_terms.specs.WordOrder.{same_word, elements_of}

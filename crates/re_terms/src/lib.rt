@@ -12,6 +12,7 @@ pub mod raw_expr;
 pub mod replicated;
 pub mod reserved;
 pub mod seq;
+pub mod shape;
 pub mod signs;
 #[cfg(test)]
 mod tests;
