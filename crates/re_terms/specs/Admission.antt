@@ -1,11 +1,11 @@
 -- Which turns and entries a program allows.
 -- Read against: on `device a; var x: int = 1; event e: int; counter c;` the turn `x = 2, fire e 3, add c 1` is allowed, with the ids 1 and 2 and the cell 0;
 -- a turn without parts, one that sets e, one that sets x to true, and one of 65 parts are not.
-use Rattle.std.specs.Prelude.{ℕ, ◌+◌, ◌<◌, ◌≤◌, ◌≡◌, Bool, true, false, List, length, Option, None, Some, slice_get, count_by}
+use Rattle.std.specs.Prelude.{ℕ, ⊤, ◌+◌, ◌<◌, ◌≤◌, ◌≡◌, Bool, true, false, List, length, Option, None, Some, slice_get, count_by}
 use Rattle.std.specs.Option.{option_map_or}
 use Rattle.std.specs.List.{AllPairs, list_all}
 use Rattle.re_terms.specs.Arithmetic.{is_word_number}
-use Rattle.re_terms.specs.Programs.{is_symbol}
+use Rattle.re_terms.specs.Programs.{is_symbol, is_device}
 use Rattle.re_terms.specs.Shapes.{is_word_of, replicated_kinds, shape_of, FitsShape}
 use Rattle.re_terms.specs.declared.word.Kind.{Kind}
 use Rattle.re_terms.specs.declared.program.Body.{Body}
@@ -21,6 +21,8 @@ use Rattle.re_terms.specs.declared.replicated.Act.TheVariants as act
 use Rattle.re_terms.specs.declared.replicated.RepOp.{RepOp}
 use Rattle.re_terms.specs.declared.replicated.RKind.{RKind}
 use Rattle.re_terms.specs.declared.replicated.RKind.TheVariants as replicated
+use Rattle.re_terms.specs.declared.command.Command.{Command}
+use Rattle.re_terms.specs.declared.command.Command.TheVariants as command
 
 -- how many symbols are declared
 abbrev pub symbol_count : List Decl → ℕ
@@ -76,3 +78,34 @@ pub record IsAdmitted (p : Program) (t : Turn) : Type 0 where
 abbrev pub IsEntryOf : Program → Entry → Type 0
 IsEntryOf p (entry.Turn t) = IsAdmitted p t
 IsEntryOf p (entry.Merge r) = FitsShape (shape_of p) r
+
+-- how many devices are declared
+abbrev pub device_count : List Decl → ℕ
+device_count decls = count_by is_device decls
+
+-- what `get` may ask for: a var, fold, signal, counter, register or set
+abbrev pub is_shown_body : Body → Bool
+is_shown_body body.Device = false
+is_shown_body body.Symbol = false
+is_shown_body (body.Event k) = false
+is_shown_body (body.Changed of) = false
+is_shown_body (body.Map source k expr) = false
+is_shown_body (body.Filter source expr) = false
+is_shown_body (body.Either left right) = false
+is_shown_body b = true
+
+-- the declaration with this id is such a one
+abbrev pub is_shown_at : List Decl → ℕ → Bool
+is_shown_at decls id = option_map_or (λ d. is_shown_body d.body) (slice_get decls id) false
+
+-- a command of the program: its device is declared, the program allows its turn, and what it asks for can be shown
+abbrev pub IsCommandOf : Program → Command → Type 0
+IsCommandOf p (command.Turn device t) = (device < device_count p.decls.items) × IsAdmitted p t.turn
+IsCommandOf p (command.Lazy device t) = (device < device_count p.decls.items) × IsAdmitted p t.turn
+IsCommandOf p (command.Settle device) = device < device_count p.decls.items
+IsCommandOf p (command.Get device id) = (device < device_count p.decls.items) × (is_shown_at p.decls.items id ≡ true)
+IsCommandOf p (command.Send device) = device < device_count p.decls.items
+IsCommandOf p (command.Deliver packet device) = device < device_count p.decls.items
+IsCommandOf p (command.Hex packet) = ⊤
+IsCommandOf p (command.Crash device) = device < device_count p.decls.items
+IsCommandOf p (command.Restart device) = device < device_count p.decls.items

@@ -7,6 +7,10 @@ use Rattle.std.specs.List.{range_with_len}
 use Rattle.re_terms.specs.declared.word.Word.{Word}
 use Rattle.re_terms.specs.declared.word.Word.TheVariants as word
 use Rattle.re_terms.specs.declared.entry.Put.{Put}
+use Rattle.re_terms.specs.declared.entry.Entry.{Entry}
+use Rattle.re_terms.specs.declared.entry.Entry.TheVariants as entry
+use Rattle.re_terms.specs.declared.entry.State.{State}
+use Rattle.re_terms.specs.declared.replicated.RState.{RState}
 use Rattle.re_terms.specs.declared.program.Body.{Body}
 use Rattle.re_terms.specs.declared.program.Body.TheVariants as body
 use Rattle.re_terms.specs.declared.program.Decl.{Decl}
@@ -15,7 +19,7 @@ use Rattle.re_terms.specs.Dependencies.{below}
 use Rattle.re_terms.specs.Meaning.{meaning}
 use Rattle.re_terms.specs.Signal.{is_cell, cell_place}
 use Rattle.re_terms.specs.SignalWords.{no_word, names_environment, replicated_place, signal_word}
-use Rattle.re_terms.specs.Views.{View}
+use Rattle.re_terms.specs.Views.{View, view_of}
 use Rattle.re_terms.specs.WordOrder.{same_word}
 
 -- what stands before an entry, and what the entry brings
@@ -28,6 +32,19 @@ pub record Step : Type 0 where
   -- the vars that it sets and the source events that it fires
   pub sets : List Put
   pub fires : List Put
+
+-- the vars that an entry sets, and the source events that it fires: none where it is a merge
+abbrev pub sets_of : Entry → List Put
+sets_of (entry.Turn t) = t.sets.items
+sets_of (entry.Merge r) = []
+
+abbrev pub fires_of : Entry → List Put
+fires_of (entry.Turn t) = t.fires.items
+fires_of (entry.Merge r) = []
+
+-- what stands before an entry in this state, and what the entry brings, where the replicated state is this one behind it
+abbrev pub step_in : State → Entry → RState → Step
+step_in s e behind = record { words = s.words.items; old_view = view_of s.rep; new_view = view_of behind; sets = sets_of e; fires = fires_of e }
 
 -- what a declaration has behind an entry: its word, and its value where it is an event that occurs
 pub record Effect : Type 0 where
