@@ -5,8 +5,8 @@ use Rattle.re_outside.specs.declared.step.Step.{Step}
 use Rattle.re_outside.specs.Outside.{Seen, Does, Moves, Faults, said, none}
 use Rattle.re_outside.proofs.Does.{said-append}
 use Rattle.re_terms.specs.declared.program.Program.{Program}
-use Rattle.re_terms.specs.World.{World, Outcome, start_world}
-use Rattle.re_tool.specs.Commands.{line_of}
+use Rattle.re_terms.specs.Worlds.{World, Outcome, start_world}
+use Rattle.re_commands.specs.Commanding.{commanded}
 use Rattle.re_tool.specs.Answers.{texts, lines_after, first, others, line_text, line_after}
 use Rattle.re_tool.specs.Acts.{Act, Acts, ActOn, Order, Ordered}
 
@@ -15,26 +15,26 @@ texts-append p w [] ys [] qs h = refl
 texts-append p w [] ys (o ∷ os) qs h = absurd (cc)
 texts-append p w (x ∷ xs) ys [] qs h = absurd (cc)
 texts-append p w (x ∷ xs) ys (o ∷ os) qs h =
-    ap (λ t. line_text p w (line_of p x) o ++ t) (texts-append p (line_after p w (line_of p x) o) xs ys os qs (cc))
-    ∙ sym (append_assoc (line_text p w (line_of p x) o) (texts p (line_after p w (line_of p x) o) xs os) (texts p (lines_after p (line_after p w (line_of p x) o) xs os) ys qs))
+    ap (λ t. line_text p w (commanded p x) o ++ t) (texts-append p (line_after p w (commanded p x) o) xs ys os qs (cc))
+    ∙ sym (append_assoc (line_text p w (commanded p x) o) (texts p (line_after p w (commanded p x) o) xs os) (texts p (lines_after p (line_after p w (commanded p x) o) xs os) ys qs))
 
 pub after-append : (p : Program) (w : World) (xs ys : List (List ℕ)) (os qs : List Outcome) → length os ≡ length xs → lines_after p w (xs ++ ys) (os ++ qs) ≡ lines_after p (lines_after p w xs os) ys qs
 after-append p w [] ys [] qs h = refl
 after-append p w [] ys (o ∷ os) qs h = absurd (cc)
 after-append p w (x ∷ xs) ys [] qs h = absurd (cc)
-after-append p w (x ∷ xs) ys (o ∷ os) qs h = after-append p (line_after p w (line_of p x) o) xs ys os qs (cc)
+after-append p w (x ∷ xs) ys (o ∷ os) qs h = after-append p (line_after p w (commanded p x) o) xs ys os qs (cc)
 
 -- one line more
 pub texts_more : (p : Program) (w : World) (lines : List (List ℕ)) (line : List ℕ) (os : List Outcome) (o : Outcome) → length os ≡ length lines
-    → texts p w (lines ++ line ∷ []) (os ++ o ∷ []) ≡ texts p w lines os ++ line_text p (lines_after p w lines os) (line_of p line) o
-texts_more p w lines line os o h = texts-append p w lines (line ∷ []) os (o ∷ []) h ∙ ap (λ t. texts p w lines os ++ t) (append-nil (line_text p (lines_after p w lines os) (line_of p line) o))
+    → texts p w (lines ++ line ∷ []) (os ++ o ∷ []) ≡ texts p w lines os ++ line_text p (lines_after p w lines os) (commanded p line) o
+texts_more p w lines line os o h = texts-append p w lines (line ∷ []) os (o ∷ []) h ∙ ap (λ t. texts p w lines os ++ t) (append-nil (line_text p (lines_after p w lines os) (commanded p line) o))
 
 -- an outcome more changes nothing before it
 pub texts_front : (p : Program) (w : World) (lines : List (List ℕ)) (os : List Outcome) (o : Outcome) → length os ≡ length lines → texts p w lines (os ++ o ∷ []) ≡ texts p w lines os
 texts_front p w lines os o h = ap (λ l. texts p w l (os ++ o ∷ [])) (sym (append-nil lines)) ∙ texts-append p w lines [] os (o ∷ []) h ∙ append-nil (texts p w lines os)
 
 acts_more : (p : Program) (w : World) (lines : List (List ℕ)) (line : List ℕ) (os : List Outcome) (o : Outcome) (steps more : List Step) → length os ≡ length lines
-    → Acts p w lines os steps → Act (line_text p (lines_after p w lines os) (line_of p line) o) more
+    → Acts p w lines os steps → Act (line_text p (lines_after p w lines os) (commanded p line) o) more
     → Acts p w (lines ++ line ∷ []) (os ++ o ∷ []) (steps ++ more)
 acts_more p w [] line [] o steps more h a q = record { front = more; rest = []; whole = ap (λ s. s ++ more) a ∙ sym (append-nil more); here = q; there = refl }
 acts_more p w [] line (x ∷ os) o steps more h a q = absurd (cc)
@@ -44,7 +44,7 @@ acts_more p w (l ∷ lines) line (x ∷ os) o steps more h a q = record {
   rest = a.rest ++ more;
   whole = ap (λ s. s ++ more) a.whole ∙ append_assoc a.front a.rest more;
   here = a.here;
-  there = acts_more p (line_after p w (line_of p l) x) lines line os o a.rest more (cc) a.there q;
+  there = acts_more p (line_after p w (commanded p l) x) lines line os o a.rest more (cc) a.there q;
 }
 
 -- the answers are said, one behind the other
@@ -53,7 +53,7 @@ acts_said p w [] os steps a = ap said a
 acts_said p w (l ∷ lines) os steps a =
     ap said a.whole ∙ said-append a.front a.rest
     ∙ ap (λ t. t ++ said a.rest) (ap said a.here.whole ∙ said-append a.here.own a.here.say ∙ ap (λ t. t ++ said a.here.say) a.here.quiet ∙ a.here.says)
-    ∙ ap (λ t. line_text p w (line_of p l) (first os) ++ t) (acts_said p (line_after p w (line_of p l) (first os)) lines (others os) a.rest a.there)
+    ∙ ap (λ t. line_text p w (commanded p l) (first os) ++ t) (acts_said p (line_after p w (commanded p l) (first os)) lines (others os) a.rest a.there)
 
 -- quiet steps before a command's are counted among its own
 act_behind : (answer : List ℕ) (noise steps : List Step) → said noise ≡ [] → Act answer steps → Act answer (noise ++ steps)
@@ -80,7 +80,7 @@ order_nil s p = record { front = []; told = refl; acts = refl; trace = λ t. sym
 
 -- a line more is answered behind what was read
 pub order_more : (a b c e : Seen) (p : Program) (lines : List (List ℕ)) (line bytes text : List ℕ) (os : List Outcome) (o : Outcome) → length os ≡ length lines
-    → Order a b p lines os → Does b c bytes [] none → ActOn c e text → text ≡ line_text p (lines_after p (start_world p) lines os) (line_of p line) o
+    → Order a b p lines os → Does b c bytes [] none → ActOn c e text → text ≡ line_text p (lines_after p (start_world p) lines os) (commanded p line) o
     → Order a e p (lines ++ line ∷ []) (os ++ o ∷ [])
 order_more a b c e p lines line bytes text os o h r n q k =
     let told = n.moves.told ∙ r.told in

@@ -6,7 +6,7 @@ use Rattle.re_terms.specs.declared.program.Program.{Program}
 use Rattle.re_tool.specs.declared.command.Line.TheVariants.{Bad}
 use Rattle.re_tool.specs.declared.words.Job.{Job}
 use Rattle.re_tool.specs.declared.words.Job.TheVariants as job
-use Rattle.re_tool.specs.Commands.{line_of}
+use Rattle.re_commands.specs.Commanding.{commanded}
 use Rattle.re_tool.specs.Lines.{without_return}
 use Rattle.re_tool.specs.Verdict.{Verdict, Unknown, Rejected, Accepted, Judges, too_long, no_token, unexpected, too_deep, whole, HasVerdict, IsSole, Decides}
 use Rattle.re_tool.proofs.Clipping.{length-without_return}
@@ -66,23 +66,23 @@ sole_kept j text (Accepted p) h = λ w k. h w (has_back j text w k)
 pub verdict-kept : (j : Job) (text : List ℕ) (v : Verdict) → Decides j (take 65537 text) v → Decides j text v
 verdict-kept j text v d = record { has = has_kept j text v d.has; only = sole_kept j text v d.only }
 
-line-long : (p : Program) (line : List ℕ) → 1024 < length line → line_of p line ≡ Bad
+line-long : (p : Program) (line : List ℕ) → 1024 < length line → commanded p line ≡ Bad
 line-long p line h = rw (lt-ltb 1024 (length line) h) refl
 
-line_cases : (p : Program) (line : List ℕ) → (1026 < length line) ⊎ (length line ≤ 1026) → line_of p (without_return (take 1026 line)) ≡ line_of p (without_return line)
-line_cases p line (inr h) = ap (λ l. line_of p (without_return l)) (take_all 1026 line h)
+line_cases : (p : Program) (line : List ℕ) → (1026 < length line) ⊎ (length line ≤ 1026) → commanded p (without_return (take 1026 line)) ≡ commanded p (without_return line)
+line_cases p line (inr h) = ap (λ l. commanded p (without_return l)) (take_all 1026 line h)
 line_cases p line (inl h) =
     line-long p (without_return (take 1026 line)) (omega (arith, length-without_return (take 1026 line), length-take 1026 line))
     ∙ sym (line-long p (without_return line) (omega (arith, length-without_return line)))
 
 -- what is kept of a line is the same line
-pub line-kept : (p : Program) (line : List ℕ) → line_of p (without_return (take 1026 line)) ≡ line_of p (without_return line)
+pub line-kept : (p : Program) (line : List ℕ) → commanded p (without_return (take 1026 line)) ≡ commanded p (without_return line)
 line-kept p line = line_cases p line (cases_lt 1026 (length line))
 
-last_cases : (p : Program) (line : List ℕ) → (1026 < length line) ⊎ (length line ≤ 1026) → line_of p (take 1026 line) ≡ line_of p line
-last_cases p line (inr h) = ap (line_of p) (take_all 1026 line h)
+last_cases : (p : Program) (line : List ℕ) → (1026 < length line) ⊎ (length line ≤ 1026) → commanded p (take 1026 line) ≡ commanded p line
+last_cases p line (inr h) = ap (commanded p) (take_all 1026 line h)
 last_cases p line (inl h) = line-long p (take 1026 line) (omega (arith, length-take 1026 line)) ∙ sym (line-long p line (omega arith))
 
 -- the same of a last line, which keeps its CR
-pub line-kept_last : (p : Program) (line : List ℕ) → line_of p (take 1026 line) ≡ line_of p line
+pub line-kept_last : (p : Program) (line : List ℕ) → commanded p (take 1026 line) ≡ commanded p line
 line-kept_last p line = last_cases p line (cases_lt 1026 (length line))

@@ -1,7 +1,7 @@
 -- Which lines are refused, and which have no answer.
 use Rattle.std.proofs.Common.{◌≡◌, ◌<◌, ℕ, ℤ, arith, Some, None, Option, refl, sym, ap, ◌∙◌}
 use Rattle.re_terms.specs.declared.program.Program.{Program}
-use Rattle.re_terms.specs.World.{World, Outcome, Fine, Memory, PlainAnswer, Entered, Value, Refused}
+use Rattle.re_terms.specs.Worlds.{World, Outcome, Fine, Memory, PlainAnswer, Entered, Value, Refused}
 use Rattle.re_tool.specs.declared.command.Line.{Line}
 use Rattle.re_tool.specs.declared.command.Line.TheVariants as line
 use Rattle.re_tool.specs.Answers.{line_answer}

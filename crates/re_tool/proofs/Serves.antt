@@ -4,7 +4,7 @@ use Rattle.re_outside.specs.Outside.{Seen, none}
 use Rattle.re_terms.specs.declared.program.Program.{Program}
 use Rattle.re_tool.specs.declared.reader.Reader.{Reader}
 use Rattle.re_tool.specs.Clipped.{Clipped, clipped}
-use Rattle.re_tool.specs.Commands.{line_of}
+use Rattle.re_commands.specs.Commanding.{commanded}
 use Rattle.re_tool.specs.Device.{DeviceState}
 use Rattle.re_tool.specs.Lines.{without_return}
 use Rattle.re_tool.specs.Reads.{Reads}
@@ -12,11 +12,11 @@ use Rattle.re_tool.specs.Serving.{Turns, TurnBreaks}
 use Rattle.re_tool.proofs.Programs.{line-kept, line-kept_last}
 use Rattle.re_tool.proofs.Sessions.{turns_as, breaks_as}
 
-kept_is : (p : Program) (line' : Clipped) (most : ℕ) (raw : List ℕ) → line' ≡ clipped most raw → most ≡ 1026 → line_of p (without_return line'.items) ≡ line_of p (without_return raw)
-kept_is p line' most raw e m = ap (λ (l : Clipped). line_of p (without_return l.items)) e ∙ ap (λ n. line_of p (without_return (take n raw))) m ∙ line-kept p raw
+kept_is : (p : Program) (line' : Clipped) (most : ℕ) (raw : List ℕ) → line' ≡ clipped most raw → most ≡ 1026 → commanded p (without_return line'.items) ≡ commanded p (without_return raw)
+kept_is p line' most raw e m = ap (λ (l : Clipped). commanded p (without_return l.items)) e ∙ ap (λ n. commanded p (without_return (take n raw))) m ∙ line-kept p raw
 
-last_is : (p : Program) (line' : Clipped) (most : ℕ) (raw : List ℕ) → line' ≡ clipped most raw → most ≡ 1026 → line_of p line'.items ≡ line_of p raw
-last_is p line' most raw e m = ap (λ (l : Clipped). line_of p l.items) e ∙ ap (λ n. line_of p (take n raw)) m ∙ line-kept_last p raw
+last_is : (p : Program) (line' : Clipped) (most : ℕ) (raw : List ℕ) → line' ≡ clipped most raw → most ≡ 1026 → commanded p line'.items ≡ commanded p raw
+last_is p line' most raw e m = ap (λ (l : Clipped). commanded p l.items) e ∙ ap (λ n. commanded p (take n raw)) m ∙ line-kept_last p raw
 
 pub turns_kept : (p : Program) (line' : Clipped) (most : ℕ) (raw : List ℕ) (before after : DeviceState) (a b : Seen) → line' ≡ clipped most raw → most ≡ 1026 → Turns p (without_return line'.items) before after a b → Turns p (without_return raw) before after a b
 turns_kept p line' most raw before after a b e m t = turns_as p _ _ before after a b (kept_is p line' most raw e m) t

@@ -6,7 +6,7 @@ use Rattle.std.proofs.lemmas.List.{append-nil, length_push, map-append}
 use Rattle.re_outside.specs.Outside.{Seen, Does, IsAtEnd, Faults, none}
 use Rattle.re_outside.proofs.Does.{does-nil, does_well, does_as}
 use Rattle.re_terms.specs.declared.program.Program.{Program}
-use Rattle.re_terms.specs.World.{Outcome, start_world}
+use Rattle.re_terms.specs.Worlds.{Outcome, start_world}
 use Rattle.re_tool.specs.declared.reader.Reader.{Reader}
 use Rattle.re_tool.specs.declared.words.Job.{Job}
 use Rattle.re_tool.specs.declared.words.Job.TheVariants as job
@@ -14,7 +14,7 @@ use Rattle.re_tool.specs.declared.status.Status.{Status}
 use Rattle.re_tool.specs.Acts.{Order, Ordered, OrderedIn}
 use Rattle.re_tool.specs.Answers.{Outcomes, Session, texts, lines_after, line_text, line_after, session_of, session_in, answers, done, close}
 use Rattle.re_tool.specs.Clipped.{Clipped}
-use Rattle.re_tool.specs.Commands.{line_of}
+use Rattle.re_commands.specs.Commanding.{commanded}
 use Rattle.re_tool.specs.Device.{DeviceState, Represents}
 use Rattle.re_tool.specs.Lines.{split, ended, IsPlain, ArePlain, without_return}
 use Rattle.re_tool.specs.Part.{Part, divided, part_of, part_in, last_lines}
@@ -137,17 +137,17 @@ raws_more : (raws : List (List ℕ)) (line : List ℕ) (more : List (List ℕ)) 
 raws_more raws line more = map-append without_return raws (line ∷ more)
 
 -- the same line in other words
-pub answers_as : (p : Program) (line line' : List ℕ) (before after : DeviceState) (text : List ℕ) → line_of p line ≡ line_of p line' → AnswersLine p line before after text → AnswersLine p line' before after text
+pub answers_as : (p : Program) (line line' : List ℕ) (before after : DeviceState) (text : List ℕ) → commanded p line ≡ commanded p line' → AnswersLine p line before after text → AnswersLine p line' before after text
 answers_as p line line' before after text e q = record {
   outcome = q.outcome;
   says = λ w h. q.says w h ∙ ap (λ l. line_text p w l q.outcome) e;
   world = λ w h. subst (λ l. Represents p (line_after p w l q.outcome) after) e (q.world w h);
 }
 
-pub turns_as : (p : Program) (line line' : List ℕ) (before after : DeviceState) (a b : Seen) → line_of p line ≡ line_of p line' → Turns p line before after a b → Turns p line' before after a b
+pub turns_as : (p : Program) (line line' : List ℕ) (before after : DeviceState) (a b : Seen) → commanded p line ≡ commanded p line' → Turns p line before after a b → Turns p line' before after a b
 turns_as p line line' before after a b e q = record { text = q.text; answers = answers_as p line line' before after q.text e q.answers; act = q.act; does = q.does }
 
-pub breaks_as : (p : Program) (line line' : List ℕ) (before after : DeviceState) (a b : Seen) → line_of p line ≡ line_of p line' → TurnBreaks p line before after a b → TurnBreaks p line' before after a b
+pub breaks_as : (p : Program) (line line' : List ℕ) (before after : DeviceState) (a b : Seen) → commanded p line ≡ commanded p line' → TurnBreaks p line before after a b → TurnBreaks p line' before after a b
 breaks_as p line line' before after a b e q = record { text = q.text; answers = answers_as p line line' before after q.text e q.answers; breaks = q.breaks }
 
 -- a text more is said

@@ -3,8 +3,8 @@ use Rattle.std.specs.Prelude.{ℕ, ◌≡◌, ◌++◌, List, [], ◌∷◌, tru
 use Rattle.re_outside.specs.declared.step.Step.{Step}
 use Rattle.re_outside.specs.Outside.{Seen, said}
 use Rattle.re_terms.specs.declared.program.Program.{Program}
-use Rattle.re_terms.specs.World.{World, Outcome, start_world}
-use Rattle.re_tool.specs.Commands.{line_of}
+use Rattle.re_terms.specs.Worlds.{World, Outcome, start_world}
+use Rattle.re_commands.specs.Commanding.{commanded}
 use Rattle.re_tool.specs.Answers.{Session, first, others, line_text, line_after}
 
 -- A command's own steps, which say nothing, and behind them its answer whole.
@@ -27,8 +27,8 @@ pub record Front (steps : List Step) (P Q : List Step → Type 0) : Type 0 where
 abbrev pub Acts : Program → World → List (List ℕ) → List Outcome → List Step → Type 0
 Acts p w [] os steps = steps ≡ []
 Acts p w (l ∷ lines) os steps = Front steps
-    (Act (line_text p w (line_of p l) (first os)))
-    (Acts p (line_after p w (line_of p l) (first os)) lines (others os))
+    (Act (line_text p w (commanded p l) (first os)))
+    (Acts p (line_after p w (commanded p l) (first os)) lines (others os))
 
 -- A line's steps, seen from outside.
 pub record ActOn (old new : Seen) (answer : List ℕ) : Type 0 where

@@ -1,20 +1,20 @@
 -- What a run says and how it ends, as a function of the bytes read and of the outcomes.
 -- Read against: the program `device a; var x: int = 2; signal s = x + 3;` with get a s, turn a x = 5, get a s says 5, ok 1, 8;
 -- `device a;` with and without a separator behind it says nothing; both end with status 0.
-use Rattle.std.specs.Prelude.{ℕ, ◌-◌, List, [], ◌∷◌, ◌++◌, Bool, true, false, Option, Some, None, if◌then◌else◌, take, codes}
+use Rattle.std.specs.Prelude.{ℕ, ◌-◌, List, [], ◌∷◌, ◌++◌, Bool, true, false, Option, Some, None, Result, Ok, Err, if◌then◌else◌, take, codes}
 use Rattle.re_terms.specs.declared.program.Program.{Program}
-use Rattle.re_terms.specs.World.{World, Outcome, Fine, Memory, TakeTurn, Get, PlainAnswer, Refused, start_world, reply, world_after}
-use Rattle.re_terms.specs.declared.word.Word.TheVariants as word
-use Rattle.re_tool.specs.declared.command.Line.{Line}
-use Rattle.re_tool.specs.declared.command.Line.TheVariants as line
+use Rattle.re_terms.specs.declared.command.Command.{Command}
+use Rattle.re_terms.specs.Worlds.{World, Outcome, Fine, Memory, PlainAnswer, Refused, start_world, reply, world_after}
+use Rattle.re_commands.specs.declared.fault.CommandFault.{CommandFault}
+use Rattle.re_commands.specs.declared.fault.CommandFault.TheVariants as fault
 use Rattle.re_tool.specs.declared.words.Job.{Job}
 use Rattle.re_tool.specs.declared.words.Job.TheVariants as job
 use Rattle.re_tool.specs.declared.status.Status.{Status}
 use Rattle.re_tool.specs.declared.status.Status.TheVariants as status
 use Rattle.re_print.specs.Canonical.{program_text}
-use Rattle.re_tool.specs.Commands.{line_of}
+use Rattle.re_commands.specs.Commanding.{commanded}
 use Rattle.re_tool.specs.Part.{Part, part_of, is_over}
-use Rattle.re_tool.specs.Texts.{reply_text}
+use Rattle.re_print.specs.AnswerTexts.{answer_text}
 use Rattle.re_tool.specs.Verdict.{Verdict, Rejected, Accepted, refusal_text}
 
 -- what the definition of the answers doesn't decide
@@ -34,38 +34,51 @@ abbrev pub others : List Outcome → List Outcome
 others [] = []
 others (o ∷ os) = os
 
--- the answer to a line: none where it is blank, and else its command's or a refusal
-abbrev pub line_answer : Program → World → Line → Outcome → Option PlainAnswer
-line_answer p w line.Blank o = None
-line_answer p w line.Bad Fine = Some (Refused 20)
-line_answer p w line.Bad Memory = Some (Refused 36)
-line_answer p w (line.Turn id number) o = Some (reply p w (TakeTurn (record { id = id; word = word.Int number } ∷ [])) o)
-line_answer p w (line.Get id) o = Some (reply p w (Get id) o)
+-- the code of a fault of the line itself
+abbrev pub fault_code : CommandFault → ℕ
+fault_code fault.Memory = 36
+fault_code fault.Syntax = 20
+fault_code fault.Unknown = 21
+fault_code fault.Kind = 22
+fault_code fault.Twice = 23
+fault_code fault.Empty = 24
+fault_code fault.TooMany = 25
 
-abbrev pub said_answer : Option PlainAnswer → List ℕ
-said_answer None = []
-said_answer (Some answer) = reply_text answer
+-- what a line is: a command, nothing, or a fault
+abbrev pub Reading : Type 0
+Reading = Result (Option Command) CommandFault
+
+-- the answer to a line: none where it holds no command, and else its command's or a refusal
+abbrev pub line_answer : Program → World → Reading → Outcome → Option PlainAnswer
+line_answer p w (Ok None) o = None
+line_answer p w (Ok (Some c)) o = Some (reply p w c o)
+line_answer p w (Err f) Fine = Some (Refused (fault_code f))
+line_answer p w (Err f) Memory = Some (Refused 36)
+
+-- an answer is a line
+abbrev pub said_answer : Program → Option PlainAnswer → List ℕ
+said_answer p None = []
+said_answer p (Some answer) = answer_text p answer ++ 10 ∷ []
 
 -- what a line says
-abbrev pub line_text : Program → World → Line → Outcome → List ℕ
-line_text p w l o = said_answer (line_answer p w l o)
+abbrev pub line_text : Program → World → Reading → Outcome → List ℕ
+line_text p w l o = said_answer p (line_answer p w l o)
 
--- the world behind a line
-abbrev pub line_after : Program → World → Line → Outcome → World
-line_after p w line.Blank o = w
-line_after p w line.Bad o = w
-line_after p w (line.Turn id number) o = world_after p w (TakeTurn (record { id = id; word = word.Int number } ∷ [])) o
-line_after p w (line.Get id) o = world_after p w (Get id) o
+-- the world after a line
+abbrev pub line_after : Program → World → Reading → Outcome → World
+line_after p w (Ok None) o = w
+line_after p w (Ok (Some c)) o = world_after p w c o
+line_after p w (Err f) o = w
 
 -- what the lines say, one behind the other
 abbrev pub texts : Program → World → List (List ℕ) → List Outcome → List ℕ
 texts p w [] os = []
-texts p w (l ∷ lines) os = line_text p w (line_of p l) (first os) ++ texts p (line_after p w (line_of p l) (first os)) lines (others os)
+texts p w (l ∷ lines) os = line_text p w (commanded p l) (first os) ++ texts p (line_after p w (commanded p l) (first os)) lines (others os)
 
--- the world behind the lines
+-- the world after the lines
 abbrev pub lines_after : Program → World → List (List ℕ) → List Outcome → World
 lines_after p w [] os = w
-lines_after p w (l ∷ lines) os = lines_after p (line_after p w (line_of p l) (first os)) lines (others os)
+lines_after p w (l ∷ lines) os = lines_after p (line_after p w (commanded p l) (first os)) lines (others os)
 
 -- a program that runs, and the lines that it is given
 pub record Session : Type 0 where

@@ -1,39 +1,35 @@
 -- What one line of a session does, and from where a session begins.
-use Rattle.std.specs.Prelude.{ℕ, ◌≡◌, ◌≤◌, ◌==◌, ◌&&◌, nat_le, Bool, List, [], ◌++◌, Option, Some, None, Result, Ok, Err, length, ⊤}
+use Rattle.std.specs.Prelude.{ℕ, ◌≡◌, ◌≤◌, List, [], ◌∷◌, ◌++◌, Option, Some, None, Result, Ok, Err, length, ⊤}
 use Rattle.std.specs.List.{flat_map}
 use Rattle.re_terms.specs.declared.program.Program.{Program}
-use Rattle.re_terms.specs.World.{World, Outcome, start_world}
+use Rattle.re_terms.specs.declared.command.Answer.{Answer}
+use Rattle.re_terms.specs.Worlds.{World, Outcome, start_world, plain_answer}
 use Rattle.re_outside.specs.Outside.{Seen, Does, Breaks, none}
-use Rattle.re_tool.specs.declared.device.Answer.{Answer}
 use Rattle.re_tool.specs.declared.words.Job.TheVariants as job
 use Rattle.re_tool.specs.declared.reader.Reader.{Reader}
 use Rattle.re_tool.specs.declared.running.Ended.{Ended}
 use Rattle.re_tool.specs.declared.running.Ended.TheVariants as ended_by
 use Rattle.re_tool.specs.Acts.{ActOn}
 use Rattle.re_tool.specs.Answers.{line_text, line_after}
-use Rattle.re_tool.specs.Commands.{line_of}
-use Rattle.re_tool.specs.Device.{DeviceState, Represents}
+use Rattle.re_commands.specs.Commanding.{commanded}
+use Rattle.re_device.specs.Device.{DeviceState}
+use Rattle.re_tool.specs.Device.{Represents}
 use Rattle.re_tool.specs.Lines.{ended, ArePlain}
 use Rattle.re_tool.specs.Part.{divided}
 use Rattle.re_tool.specs.Reads.{limit}
-use Rattle.re_tool.specs.Texts.{answer_text}
-use Rattle.re_tool.specs.Tokens.{skipped}
+use Rattle.re_print.specs.AnswerTexts.{answer_text}
 use Rattle.re_tool.specs.Verdict.{Decides, Accepted}
 
--- a line that has no answer: one of at most 1,024 bytes that is all blanks and comments
-abbrev pub is_blank_line : List ℕ → Bool
-is_blank_line line = nat_le (length line) 1024 && (length (skipped line) == 0)
-
--- the text of an answer, and none of a blank line
-abbrev pub said_of : Option Answer → List ℕ
-said_of None = []
-said_of (Some answer) = answer_text answer
+-- the line of an answer, and none of a line that has no answer
+abbrev pub said_of : Program → Option Answer → List ℕ
+said_of p None = []
+said_of p (Some answer) = answer_text p (plain_answer answer) ++ 10 ∷ []
 
 -- A line is answered as one step of each world that the device stands for.
 pub record AnswersLine (p : Program) (line : List ℕ) (before after : DeviceState) (text : List ℕ) : Type 0 where
   pub outcome : Outcome
-  pub says : (w : World) → Represents p w before → text ≡ line_text p w (line_of p line) outcome
-  pub world : (w : World) → Represents p w before → Represents p (line_after p w (line_of p line) outcome) after
+  pub says : (w : World) → Represents p w before → text ≡ line_text p w (commanded p line) outcome
+  pub world : (w : World) → Represents p w before → Represents p (line_after p w (commanded p line) outcome) after
 
 -- The line is done, and its answer said whole.
 pub record Turns (p : Program) (line : List ℕ) (before after : DeviceState) (old new : Seen) : Type 0 where

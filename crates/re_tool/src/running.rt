@@ -1,48 +1,45 @@
 //! A whole run over a stream.
-ghost use Rattle.std.specs.Prelude.{◌≡◌, ◌≢◌, ◌≤◌, ◌<◌, ◌+◌, ◌-◌, ◌^◌, ◌⊎◌, [], length, IfOk, OnOk, OnErr, Err};
+ghost use Rattle.std.specs.Prelude.{◌≡◌, ◌≢◌, ◌≤◌, ◌<◌, ◌+◌, ◌-◌, ◌⊎◌, [], true, length, IfOk, IfSome, OnOk, OnErr, Some, Err};
 ghost use Rattle.re_outside.specs.Outside.{Seen, Does, Breaks, none};
-ghost use Rattle.re_tool.specs.Answers.{status_line};
-ghost use Rattle.re_tool.specs.Built.{IsBuilt};
+ghost use Rattle.re_terms.specs.Admission.{IsCommandOf};
+ghost use Rattle.re_terms.specs.Programs.{IsProgram};
+ghost use Rattle.re_tool.specs.Answers.{status_line, fault_code};
+ghost use Rattle.re_tool.specs.Built.{is_built};
 ghost use Rattle.re_tool.specs.Causes.{EndCause, ProgramCause, InputCause, OutputCause, TooLongCause};
-ghost use Rattle.re_tool.specs.Commands.{line_of};
-ghost use Rattle.re_tool.specs.Device.{Fits};
+ghost use Rattle.re_tool.specs.Device.{StepsTo, turn_fault_code};
 ghost use Rattle.re_tool.specs.Clipped.{Clipped};
-ghost use Rattle.re_terms.specs.Programs.{names_of};
 ghost use Rattle.re_tool.specs.PartReading.{PartIs};
 ghost use Rattle.re_tool.specs.Opening.{Opens};
 ghost use Rattle.re_tool.specs.Reads.{limit};
-ghost use Rattle.re_tool.specs.Serving.{AnswersLine, TurnGives, Starts, said_of, is_blank_line};
+ghost use Rattle.re_tool.specs.Serving.{AnswersLine, TurnGives, Starts, said_of};
 ghost use Rattle.re_tool.specs.Session.{Finishes, Runs};
 ghost use Rattle.re_tool.specs.Verdict.{Decides, Accepted, refusal_words};
+ghost use Rattle.re_print.specs.AnswerTexts.{IsNoSet};
+ghost use Rattle.re_device.specs.Device.{started};
 
-use crate::answer::print_answer;
-use crate::command::{Line, read_line};
-use crate::device::{Answer, Command, Device};
 use crate::faults::{ProgramFault, Refusal, refusal_text};
 use crate::line::ClippedLine;
-use crate::names::Names;
 use crate::part::{Stop, read_part, trim_return};
 use crate::reader::{Halt, Next, Reader};
 use crate::reading::read_program;
 use crate::status::Status;
-use crate::tokens::is_blank_text;
 use crate::words::Job;
-use re_outside::{Failed, Outside, say_all};
-use re_print::print_program;
-use re_terms::Program;
+use re_commands::{CommandFault, command};
+use re_device::{Device, DeviceFault};
+use re_eval::Steps;
+use re_graph::Graph;
+use re_outside::{Bytes, Failed, Outside, say_all};
+use re_print::{print_answer, print_program};
+use re_terms::{Answer, Command, Program};
 use std::alloc::{AllocError, Global};
-
-/// How many bytes a line has at most, without its end.
-const MAX_LINE: usize = 1024;
+use std::marker::Brand;
+use std::sync::ledger::{Blank, Ledger};
 
 /// Two bytes more than a line may have: with them it is too long, whatever comes behind.
 const LINE_KEPT: usize = 1026;
 
-/// The code of a line that is no command.
-const SYNTAX: u8 = 20;
-
-/// The code of a line that memory ran out for.
-const MEMORY: u8 = 36;
+/// The code of a command that can't be done so far.
+const NOT_BUILT: u8 = 19;
 
 /// Why a line has no whole answer.
 #[derive(Clone, Copy, Debug, PartialEq, Eq)]
@@ -53,69 +50,105 @@ enum Ended {
     Output,
 }
 
-/// Whether a line has no answer.
-fn is_blank_line(line: &[u8]) -> bool
-    ensures { result ≡ is_blank_line line.now }
+/// The code of a fault of the line itself.
+fn fault_code(fault: CommandFault) -> u8
+    ensures { result ≡ fault_code fault }
 {
-    line.len() <= MAX_LINE && is_blank_text(line)
+    match fault {
+        CommandFault::Memory => 36,
+        CommandFault::Syntax => 20,
+        CommandFault::Unknown => 21,
+        CommandFault::Kind => 22,
+        CommandFault::Twice => 23,
+        CommandFault::Empty => 24,
+        CommandFault::TooMany => 25,
+    }
 }
 
-/// Does one line, and gives its answer; a blank line has none.
-///
-/// Where memory runs out for its tokens or its word, the line is refused and nothing changes.
-fn answer_line(
-    alloc: Global,
-    program: &Program,
-    names: &Names<'_>,
+/// The code of a turn that the device refuses.
+fn turn_fault_code(fault: DeviceFault) -> u8
+    ensures { result ≡ turn_fault_code fault }
+{
+    match fault {
+        DeviceFault::Memory => 36,
+        DeviceFault::Full => 29,
+    }
+}
+
+/// Does a command, and gives its answer. A refused command changes nothing.
+fn answer_command<L: Ledger>(
     device: &mut Device,
+    steps: &mut Steps<L>,
+    command: Command,
+) -> Answer
+    requires built { is_built device.old.program ≡ true }
+    requires command { IsCommandOf device.old.program command }
+    ensures steps { StepsTo device.old device.new command result }
+    ensures program { device.new.program ≡ device.old.program }
+    ensures no_set { IsNoSet result }
+{
+    match command {
+        Command::Turn { turn, .. } => match device.turn(turn, steps) {
+            Ok(done) => Answer::Entered(done.number),
+            Err(fault) => Answer::No(turn_fault_code(fault)),
+        },
+        Command::Get { id, .. } => Answer::Value(device.word(id)),
+        _ => Answer::No(NOT_BUILT),
+    }
+}
+
+/// Does one line, and gives its answer; a line without a command has none.
+///
+/// Where memory runs out, the line is refused and nothing changes.
+fn answer_line<L: Ledger>(
+    alloc: Global,
+    device: &mut Device,
+    steps: &mut Steps<L>,
     line: &[u8],
 ) -> Option<Answer>
-    requires built { IsBuilt program.now }
-    requires names { names.now ≡ names_of program.now.decls.items }
-    requires fits { Fits program.now device.old }
-    requires number { device.old.number < 2 ^ 64 - 1 }
-    ensures fits { Fits program.now device.new }
-    ensures number { device.new.number ≤ device.old.number + 1 }
-    ensures answers { AnswersLine program.now line.now device.old device.new (said_of result) }
+    requires program { IsProgram device.old.program }
+    requires built { is_built device.old.program ≡ true }
+    ensures answers { AnswersLine device.old.program line.now device.old device.new (said_of device.old.program result) }
+    ensures program { device.new.program ≡ device.old.program }
+    ensures no_set { IfSome result IsNoSet }
 {
-    if is_blank_line(line) {
-        return None;
+    match command(alloc, line, device.program()) {
+        Ok(None) => None,
+        Ok(Some(command)) => Some(answer_command(device, steps, command)),
+        Err(fault) => Some(Answer::No(fault_code(fault))),
     }
-    match read_line(alloc, line, program, names) {
-        Err(_) => Some(Answer::Refused(MEMORY)),
-        Ok(Line::Blank) => None,
-        Ok(Line::Bad) => Some(Answer::Refused(SYNTAX)),
-        Ok(Line::Turn { id, number }) => {
-            Some(device.step(alloc, program, Command::Turn { id, number }))
-        }
-        Ok(Line::Get { id }) => Some(device.step(alloc, program, Command::Get { id })),
-    }
+}
+
+/// The line of an answer. The one refusal is want of memory.
+fn answer_text(alloc: Global, p: &Program, answer: &Answer) -> Result<Bytes, AllocError>
+    requires { IsNoSet answer.now }
+    ensures { IfOk result (λ text. text.items ≡ said_of p.now (Some answer.now)) }
+{
+    let mut text = print_answer(alloc, p, answer)?;
+    text.push(b'\n')?;
+    Ok(text)
 }
 
 /// Does one line, and says its answer whole.
-fn turn<O: Outside>(
+fn turn<L: Ledger, O: Outside>(
     alloc: Global,
-    program: &Program,
-    names: &Names<'_>,
     device: &mut Device,
+    steps: &mut Steps<L>,
     line: &[u8],
     out: &mut O,
 ) -> Result<(), Ended>
-    requires built { IsBuilt program.now }
-    requires names { names.now ≡ names_of program.now.decls.items }
-    requires fits { Fits program.now device.old }
-    requires number { device.old.number < 2 ^ 64 - 1 }
-    ensures fits { Fits program.now device.new }
-    ensures number { device.new.number ≤ device.old.number + 1 }
-    ensures turns { TurnGives program.now line.now device.old device.new (O.seen out.old) (O.seen out.new) result }
+    requires program { IsProgram device.old.program }
+    requires built { is_built device.old.program ≡ true }
+    ensures program { device.new.program ≡ device.old.program }
+    ensures turns { TurnGives device.old.program line.now device.old device.new (O.seen out.old) (O.seen out.new) result }
 {
-    let Some(answer) = answer_line(alloc, program, names, device, line) else {
+    let Some(answer) = answer_line(alloc, device, steps, line) else {
         return Ok(());
     };
-    let Ok(text) = print_answer(alloc, answer) else {
+    let Ok(text) = answer_text(alloc, device.program(), &answer) else {
         return Err(Ended::Memory);
     };
-    match say_all(out, &text) {
+    match say_all(out, text.as_slice()) {
         Ok(()) => Ok(()),
         Err(_) => Err(Ended::Output),
     }
@@ -172,20 +205,17 @@ fn refuse<O: Outside>(alloc: Global, out: &mut O, why: Refusal) -> Status
 }
 
 /// Does the lines behind the program part, and ends the run.
-fn serve<O: Outside>(
+fn serve<L: Ledger, O: Outside>(
     alloc: Global,
-    program: &Program,
-    names: &Names<'_>,
     device: &mut Device,
+    steps: &mut Steps<L>,
     reader: &mut Reader,
     out: &mut O,
 ) -> Status
-    requires built { IsBuilt program.now }
-    requires names { names.now ≡ names_of program.now.decls.items }
-    requires fits { Fits program.now device.old }
+    requires program { IsProgram device.old.program }
+    requires built { is_built device.old.program ≡ true }
     requires few { reader.old.taken ≤ limit }
-    requires number { device.old.number + length reader.old.chunk ≤ reader.old.taken }
-    ensures { (start : Seen) → Starts start (O.seen out.old) program.now reader.old device.old → Runs Job.Run start (O.seen out.new) result }
+    ensures { (start : Seen) → Starts start (O.seen out.old) device.old.program reader.old device.old → Runs Job.Run start (O.seen out.new) result }
 {
     let mut line = ClippedLine::new(alloc, LINE_KEPT);
     'lines: loop {
@@ -194,21 +224,14 @@ fn serve<O: Outside>(
             Err(Halt::Input) => return finish(out, Status::Input),
             Ok(Next::TooLong) => return finish(out, Status::TooLong),
             Ok(Next::Line) => {
-                match turn(
-                    alloc,
-                    program,
-                    names,
-                    device,
-                    trim_return(line.bytes()),
-                    out,
-                ) {
+                match turn(alloc, device, steps, trim_return(line.bytes()), out) {
                     Ok(()) => {}
                     Err(Ended::Memory) => return finish(out, Status::Memory),
                     Err(Ended::Output) => return Status::Output,
                 }
             }
             Ok(Next::End) => {
-                return match turn(alloc, program, names, device, line.bytes(), out) {
+                return match turn(alloc, device, steps, line.bytes(), out) {
                     Ok(()) => Status::Done,
                     Err(Ended::Memory) => finish(out, Status::Memory),
                     Err(Ended::Output) => Status::Output,
@@ -218,29 +241,39 @@ fn serve<O: Outside>(
     }
 }
 
+/// The device of a program, before any entry. The one refusal is want of memory.
+fn start(alloc: Global, program: Program) -> Result<Device, AllocError>
+    requires { IsProgram program }
+    ensures { IfOk result (λ device. device ≡ started program 0) }
+{
+    let graph = Graph::build(alloc, &program)?;
+    Device::start(alloc, program, graph, 0)
+}
+
 /// Runs a program whose part was read, up to a separator or to the end of the input.
-fn run_program<O: Outside>(
+fn run_program<L: Ledger, O: Outside>(
     alloc: Global,
-    program: &Program,
-    is_divided: bool,
+    blank: Blank,
+    opened: Opened,
     reader: &mut Reader,
     out: &mut O,
 ) -> Status
-    requires built { IsBuilt program.now }
+    requires name { blank.name ≡ L.name }
+    requires parts { blank.parts ≡ L.parts }
+    requires one { 0 < L.parts }
+    requires program { IsProgram opened.program }
+    requires built { is_built opened.program ≡ true }
     requires few { reader.old.taken ≤ limit }
-    requires ahead { length reader.old.chunk ≤ reader.old.taken }
-    ensures { (start : Seen) (text : Clipped) → PartIs reader.old text is_divided start (O.seen out.old) → Decides Job.Run text.items (Accepted program.now) → Runs Job.Run start (O.seen out.new) result }
+    ensures { (start : Seen) (text : Clipped) → PartIs reader.old text opened.is_divided start (O.seen out.old) → Decides Job.Run text.items (Accepted opened.program) → Runs Job.Run start (O.seen out.new) result }
 {
-    let Ok(names) = Names::of(alloc, program) else {
+    let Ok(mut device) = start(alloc, opened.program) else {
         return finish(out, Status::Memory);
     };
-    let Ok(mut device) = Device::start(alloc, program) else {
-        return finish(out, Status::Memory);
-    };
-    if !is_divided {
+    if !opened.is_divided {
         return Status::Done;
     }
-    serve(alloc, program, &names, &mut device, reader, out)
+    let mut steps = Steps::<L>::new(blank);
+    serve(alloc, &mut device, &mut steps, reader, out)
 }
 
 /// A program that was read, and whether a separator stands behind it.
@@ -259,7 +292,8 @@ fn open<O: Outside>(
 ) -> Result<Opened, Status>
     requires start { reader.old ≡ record { chunk = []; taken = 0 } }
     ensures opened { IfOk result (λ opened. Opens job reader.new opened.is_divided opened.program (O.seen out.old) (O.seen out.new)) }
-    ensures built { IfOk result (λ opened. job ≡ Job.Run → IsBuilt opened.program) }
+    ensures program { IfOk result (λ opened. IsProgram opened.program) }
+    ensures built { IfOk result (λ opened. job ≡ Job.Run → is_built opened.program ≡ true) }
     ensures ended { (s : Status) → result ≡ Err s → Runs job (O.seen out.old) (O.seen out.new) s }
 {
     let part = match read_part(alloc, reader, out) {
@@ -284,7 +318,7 @@ fn run<O: Outside>(alloc: Global, out: &mut O) -> Status
 {
     let mut reader = Reader::new();
     match open(alloc, Job::Run, &mut reader, out) {
-        Ok(opened) => run_program(alloc, &opened.program, opened.is_divided, &mut reader, out),
+        Ok(opened) => run_program::<Brand, O>(alloc, Blank::new(1), opened, &mut reader, out),
         Err(status) => status,
     }
 }

@@ -1,6 +1,6 @@
 use Rattle.std.proofs.Common.{◌∙◌, sym, subst, refl}
-use Rattle.re_terms.specs.World.{Fine, Memory}
-use Rattle.re_tool.specs.Commands.{line_of}
+use Rattle.re_terms.specs.Worlds.{Fine, Memory}
+use Rattle.re_commands.specs.Commanding.{commanded}
 use Rattle.re_tool.specs.Device.{Represents}
 use Rattle.re_tool.proofs.LineKinds.{blank_is, not_blank, refused_says, refused_keeps, turn_meant, get_meant, step_number}
 use Rattle.re_tool.proofs.running.answer_line.Goals as goal
@@ -20,7 +20,7 @@ step-requires-in-Ok-Get-clause-meant c = get_meant c.args.program.now c.args.lin
 pub returns-in-Err-clause-answers : goal.returns-in-Err-clause-answers
 returns-in-Err-clause-answers c =
     let p = c.args.program.now in
-    let l = line_of p c.args.line.now in
+    let l = commanded p c.args.line.now in
     record {
       outcome = Memory;
       says = λ w h. refused_says p w l (not_blank p c.args.line.now (sym c.is_blank_line.ensures ∙ c.if-is_blank_line.false));

@@ -1,5 +1,0 @@
-use Rattle.re_tool.proofs.VarWords.{var_prints}
-use Rattle.re_tool.proofs.laws.var_law.Goals as goal
-
-pub returns : goal.returns
-returns c = var_prints
