@@ -3,6 +3,7 @@ ghost use Rattle.std.specs.Prelude.{◌≡◌, ◌≢◌, ◌≤◌, ◌<◌, �
 ghost use Rattle.re_outside.specs.Outside.{Seen, Does, Breaks, none};
 ghost use Rattle.re_terms.specs.Admission.{IsCommandOf};
 ghost use Rattle.re_terms.specs.Programs.{IsProgram};
+ghost use Rattle.re_terms.specs.Worlds.{plain_answer};
 ghost use Rattle.re_tool.specs.Answers.{status_line, fault_code};
 ghost use Rattle.re_tool.specs.Built.{is_built};
 ghost use Rattle.re_tool.specs.Causes.{EndCause, ProgramCause, InputCause, OutputCause, TooLongCause};
@@ -85,7 +86,7 @@ fn answer_command<L: Ledger>(
     requires command { IsCommandOf device.old.program command }
     ensures steps { StepsTo device.old device.new command result }
     ensures program { device.new.program ≡ device.old.program }
-    ensures no_set { IsNoSet result }
+    ensures no_set { IsNoSet (plain_answer result) }
 {
     match command {
         Command::Turn { turn, .. } => match device.turn(turn, steps) {
@@ -110,7 +111,7 @@ fn answer_line<L: Ledger>(
     requires built { is_built device.old.program ≡ true }
     ensures answers { AnswersLine device.old.program line.now device.old device.new (said_of device.old.program result) }
     ensures program { device.new.program ≡ device.old.program }
-    ensures no_set { IfSome result IsNoSet }
+    ensures no_set { IfSome result (λ a. IsNoSet (plain_answer a)) }
 {
     match command(alloc, line, device.program()) {
         Ok(None) => None,
@@ -121,7 +122,7 @@ fn answer_line<L: Ledger>(
 
 /// The line of an answer. The one refusal is want of memory.
 fn answer_text(alloc: Global, p: &Program, answer: &Answer) -> Result<Bytes, AllocError>
-    requires { IsNoSet answer.now }
+    requires { IsNoSet (plain_answer answer.now) }
     ensures { IfOk result (λ text. text.items ≡ said_of p.now (Some answer.now)) }
 {
     let mut text = print_answer(alloc, p, answer)?;
