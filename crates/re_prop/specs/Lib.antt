@@ -1,0 +1,4 @@
+pub mod Caching
+pub mod Folds
+pub mod Reading
+pub mod Touched
