@@ -13,3 +13,5 @@ pub mod Sessions
 pub mod Splits
 pub mod Starting
 pub mod Settling
+pub mod Devices
+pub mod Histories

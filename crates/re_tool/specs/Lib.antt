@@ -5,6 +5,7 @@ pub mod Causes
 pub mod Clipped
 pub mod Device
 pub mod Faults
+pub mod Histories
 pub mod Lines
 pub mod Opening
 pub mod Part

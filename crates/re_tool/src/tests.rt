@@ -220,7 +220,7 @@ fn bad_lines_lose_nothing(rt: HostRuntime) -> Result<(), TestFail> {
         is_ran(
             &run(&rt, rt.alloc(), &input)?,
             Status::Done,
-            b"no 20\nno 20\nno 20\nno 20\nok 1\nfault 1\nno 20\n-9223372036854775808\n"
+            b"no 21\nno 20\nno 20\nno 20\nok 1\nfault 1\nno 21\n-9223372036854775808\n"
         )
     );
     Ok(())
@@ -423,14 +423,12 @@ fn programs_are_checked(rt: HostRuntime) -> Result<(), TestFail> {
 #[test]
 fn other_programs_are_not_built(rt: HostRuntime) -> Result<(), TestFail> {
     let alloc = rt.alloc();
-    let cases: [&[u8]; 7] = [
+    let cases: [&[u8]; 5] = [
         b"device a; device b;",
-        b"device a; event e: int;\n---\nget a e\n",
-        b"device a; var b: bool = true;",
-        b"device a; signal s = 1 - 1;",
-        b"device a; signal s = true;",
         b"device a; counter c;",
-        b"device a; symbol red;",
+        b"device a; set t: int;\n---\nget a t\n",
+        b"device a; register m: int = 0;",
+        b"device a; device b; var x: int = 1; counter c;",
     ];
     for input in cases {
         assert!(rt; is_refused(&rt, alloc, "run", input, b"not built")?);
@@ -441,6 +439,58 @@ fn other_programs_are_not_built(rt: HostRuntime) -> Result<(), TestFail> {
         b"var x: int = 1 in 4; device a;\n---\nget a x\n",
     )?;
     assert!(rt; is_ran(&ran, Status::Done, b"1\n"));
+    Ok(())
+}
+
+#[test]
+fn whole_turns_are_taken(rt: HostRuntime) -> Result<(), TestFail> {
+    let alloc = rt.alloc();
+    let cases: [(&[u8], &[u8]); 6] = [
+        (
+            b"device a; var x: int = 1; signal p = x + 1; signal q = x * 2; signal r = p + q; event e = changed(r); fold n: int = 0 on e do self + 1;\n---\nturn a x = 5\nget a r\nget a n\n",
+            b"ok 1\n16\n1\n",
+        ),
+        (
+            b"device a; var x: int = 2; signal s = 10 / x; signal t = recover(s, 7);\n---\nget a s\nturn a x = 0\nget a s\nget a t\n",
+            b"5\nok 1\nfault 2\n7\n",
+        ),
+        (
+            b"device a; var x: int = -9223372036854775808; signal d = x / -1; signal m = x % -1;\n---\nget a d\nget a m\n",
+            b"fault 1\n0\n",
+        ),
+        (
+            b"device a; event e: int; fold f: int = 0 on e do self + 10 / arg; fold g: int = 0 on e do recover(self + 10 / arg, 100);\n---\nturn a fire e 2\nturn a fire e 0\nget a f\nget a g\nturn a fire e 5\nget a f\nget a g\n",
+            b"ok 1\nok 2\nfault 2\n100\nok 3\nfault 2\n102\n",
+        ),
+        (
+            b"device a; var x: int = 1; event e = changed(x); fold n: int = 0 on e do self + 1;\n---\nturn a x = 1\nget a n\nturn a x = 1, x = 2\nturn a x = 3\n",
+            b"ok 1\n0\nno 23\nok 2\n",
+        ),
+        (
+            b"device a; symbol red; var x: int = 0; event e: int; signal s = x; event d = changed(s);\n---\njump a\nturn a x = 9223372036854775808\nget a y\nturn z x = 1\nturn a s = 1\nturn a x = red\nturn a fire d 1\nturn a\ndeliver 0 a\nrestart a\ncrash a\ncrash a\nget a x\nlazy a x = 1\nsettle a\nsend a\nhex 0\n",
+            b"no 20\nno 20\nno 21\nno 21\nno 22\nno 22\nno 22\nno 24\nno 19\nno 19\nno 19\nno 19\n0\nno 19\nno 19\nno 19\nno 19\n",
+        ),
+    ];
+    for (input, answers) in cases {
+        assert!(rt; is_ran(&run(&rt, alloc, input)?, Status::Done, answers));
+    }
+    Ok(())
+}
+
+#[test]
+fn a_full_device_takes_no_more(rt: HostRuntime) -> Result<(), TestFail> {
+    let alloc = rt.alloc();
+    let mut input = b"device a; var x: int = 0;\n---\n".to_vec(alloc)?;
+    let mut answers = Vec::new(alloc);
+    for n in 1u32..4_097 {
+        let line = format!(in alloc; "turn a x = {n}\n")?;
+        input.extend_from_slice(line.as_bytes())?;
+        let answer = format!(in alloc; "ok {n}\n")?;
+        answers.extend_from_slice(answer.as_bytes())?;
+    }
+    input.extend_from_slice(b"turn a x = 7\nget a x\n")?;
+    answers.extend_from_slice(b"no 29\n4096\n")?;
+    assert!(rt; is_ran(&run(&rt, alloc, &input)?, Status::Done, &answers));
     Ok(())
 }
 
