@@ -1,2 +1,17 @@
+pub mod Arrays
+pub mod Ascending
+pub mod Counters
+pub mod Joins
+pub mod Joint
+pub mod Lists
+pub mod Logs
+pub mod Members
+pub mod OneMore
+pub mod Operations
+pub mod Registers
+pub mod Sets
 pub mod Signals
 pub mod States
+pub mod Unions
+pub mod Values
+pub mod WordOrders

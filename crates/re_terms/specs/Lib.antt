@@ -1,6 +1,8 @@
 pub mod Admission
 pub mod Arithmetic
+pub mod CellStates
 pub mod Dependencies
+pub mod JointLogs
 pub mod Kinds
 pub mod Layouts
 pub mod Listed
@@ -8,12 +10,18 @@ pub mod Meaning
 pub mod Plain
 pub mod Programs
 pub mod Propagation
+pub mod Replication
 pub mod Runs
 pub mod Shapes
 pub mod Signal
 pub mod SignalWords
 pub mod Tokens
 pub mod Trees
+pub mod UpdateSets
+pub mod UpdateStates
+pub mod Updates
+pub mod Values
+pub mod Vectors
 pub mod Views
 pub mod WordOrder
 pub mod World

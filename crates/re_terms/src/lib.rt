@@ -6,6 +6,7 @@ pub mod copying;
 pub mod entry;
 pub mod expr;
 pub mod kinds;
+pub mod laws;
 pub mod program;
 pub mod raw;
 pub mod raw_expr;
@@ -18,6 +19,7 @@ pub mod signs;
 mod tests;
 pub mod text;
 pub mod token;
+pub mod vectors;
 pub mod word;
 
 pub use command::{Answer, Command};
@@ -34,4 +36,5 @@ pub use replicated::{
 pub use seq::Seq;
 pub use text::Text;
 pub use token::{Mark, Token};
+pub use vectors::{covers, join_vectors};
 pub use word::{Kind, Word};
