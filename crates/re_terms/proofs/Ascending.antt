@@ -8,7 +8,7 @@ use Rattle.std.specs.Cmp.{IsTotalOrder}
 use Rattle.std.specs.List.{list_any, AllByRecursion}
 use Rattle.std.specs.List.Sorted.{IsStrictlySortedBy}
 use Rattle.std.specs.FinMap.{IsAntisymmetric, keys, entries, entries_sorted, from_entries, get, get-entries, get-from_entries, contains_key-keys, same_map}
-use Rattle.std.specs.FinMap.Entries.{covered_all, is_sorted, is_some-find, same_entries}
+use Rattle.std.specs.FinMap.Entries.{below_all, is_sorted, is_some-find, same_entries}
 use Rattle.re_terms.specs.WordOrder.{ascending_by}
 
 module _ {K : Type 0} where
@@ -46,7 +46,7 @@ second true b h = h
 second false b h = absurd h
 
 module _ {K : Type 0} (R : K → K → Ordering) where
-  below_marked : (k : K) (ks : List K) → AllByRecursion (λ y. R k y ≡ Less) ks → T (covered_all R k (marked ks))
+  below_marked : (k : K) (ks : List K) → AllByRecursion (λ y. R k y ≡ Less) ks → T (below_all R k (marked ks))
   below_marked k [] h = tt
   below_marked k (x ∷ ks) h = both _ _ (less_true _ h.0) (below_marked k ks h.1)
 
@@ -55,7 +55,7 @@ module _ {K : Type 0} (R : K → K → Ordering) where
   sorted_marked [] h = tt
   sorted_marked (k ∷ ks) h = both _ _ (below_marked k ks h.0) (sorted_marked ks h.1)
 
-  below_keys : (k : K) (es : List (K × Unit {0})) → T (covered_all R k es) → AllByRecursion (λ y. R k y ≡ Less) (map (λ e. e.0) es)
+  below_keys : (k : K) (es : List (K × Unit {0})) → T (below_all R k es) → AllByRecursion (λ y. R k y ≡ Less) (map (λ e. e.0) es)
   below_keys k [] h = tt
   below_keys k (e ∷ es) h = (true_less _ (first _ _ h), below_keys k es (second _ _ h))
 

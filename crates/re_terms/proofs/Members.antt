@@ -1,19 +1,21 @@
 -- A state depends on which updates there are, and not on their order.
 use Rattle.std.proofs.Common.{◌≡◌, ℕ, ◌+◌, Bool, List, [], ◌∷◌, refl, sym, ap, ◌∙◌, subst, arith, inl, inr, not, ◌++◌}
-use Rattle.std.specs.Prelude.{◌&&◌, not}
+use Rattle.std.specs.Prelude.{◌&&◌, map}
 use Rattle.std.specs.List.{list_any, sum_by}
 use Rattle.re_terms.specs.declared.word.Word.{Word}
 use Rattle.re_terms.specs.declared.replicated.Act.{Act}
-use Rattle.re_terms.specs.CellStates.{Pairing, Pairing.AddWins, part_of, row_of, increment, decrement, pairs_of, unwritten, written_of, takes}
+use Rattle.re_terms.specs.CellStates.{Pairing, Pairing.AddWins, live, greatest_write, part_of, row_of, increment, decrement, pairs_of, unwritten, written_of, takes}
 use Rattle.re_terms.specs.UpdateStates.{content_of, contents_from, state_of_updates}
 use Rattle.re_terms.specs.Updates.{Update, IsIn, IsCausalLog, vector_of, greatest_number}
 use Rattle.re_terms.specs.Vectors.{by_device}
+use Rattle.re_terms.specs.Shapes.{start_cell, start_replicated, zeros}
+use Rattle.std.specs.List.Sorted.{IsStrictlySortedBy}
 use Rattle.re_terms.specs.Listed.{plain}
 use Rattle.re_terms.specs.declared.replicated.RCell.TheVariants as content
 use Rattle.re_terms.specs.declared.replicated.RKind.{RKind}
 use Rattle.re_terms.specs.declared.replicated.RKind.TheVariants as kind
 use Rattle.re_terms.specs.declared.replicated.Shape.{Shape}
-use Rattle.re_terms.proofs.WordOrders.{ascending_same}
+use Rattle.re_terms.proofs.WordOrders.{ascending_same, ascending_is}
 use Rattle.re_terms.proofs.Logs.{IsIn-from_any, any_from_IsIn, greatest_number-le, greatest_number-has, IsIn-left, IsIn-right, IsIn-cases}
 use Rattle.re_terms.proofs.Sets.{adds, has-live}
 use Rattle.re_terms.proofs.Registers.{best, same_best, Stamped, stamped_of}
@@ -108,3 +110,23 @@ cells_alike b us vs causal s within (k ∷ ks) i = λ j. cell_alike b us vs caus
 
 pub state_same : (shape : Shape) (b us vs : List Update) → IsCausalLog b → SameUpdates us vs → ((u : Update) → IsIn u vs → IsIn u b) → state_of_updates shape us ≡ state_of_updates shape vs
 state_same shape b us vs causal s within = λ j. record { vector = record { counts = vector_alike us vs s.to s.back j }; cells = plain (cells_alike b us vs causal s within shape.cells.items 0 j) }
+
+-- ---- the state of no updates
+
+no_pairs : (cell : ℕ) → pairs_of AddWins cell [] ≡ []
+unfolding pairs_of live IsStrictlySortedBy
+no_pairs cell = ascending_is [] tt
+
+content_none : (k : RKind) (place : ℕ) → content_of k place [] ≡ start_cell k
+unfolding row_of by_device greatest_write
+content_none kind.Counter place = refl
+content_none (kind.Set k) place = ap (λ ps. content.Set (plain ps)) (no_pairs place)
+content_none (kind.Register k start) place = refl
+
+contents_none : (ks : List RKind) (place : ℕ) → contents_from place ks [] ≡ map start_cell ks
+contents_none [] place = refl
+contents_none (k ∷ ks) place = λ i. content_none k place i ∷ contents_none ks (place + 1) i
+
+pub state_none : (shape : Shape) → state_of_updates shape [] ≡ start_replicated shape
+unfolding vector_of by_device greatest_number
+state_none shape = ap (λ cs. record { vector = record { counts = zeros }; cells = plain cs }) (contents_none shape.cells.items 0)

@@ -17,7 +17,7 @@ use Rattle.re_terms.proofs.OneMore.{Past, past_of, not_true, same_number, insert
 use Rattle.std.specs.List.Sorted.{IsStrictlySortedBy}
 use Rattle.re_terms.specs.CellStates.{Pairing.AddWins, Pairing.Latest, inserted_by, takes_element, pairs_of, row_of, rows_of, increment, decrement, unwritten, written, written_by, or_later, join_written, is_after, written_of}
 use Rattle.re_terms.specs.UpdateStates.{content_of, contents_from, state_of_updates, raise, act_on, change_at, after_operation}
-use Rattle.re_terms.specs.Updates.{Update, IsIn, covered, IsCausallyClosed, IsNext, IsCausalLog, greatest_stamp, write_stamp, count_of, next_update, vector_of, greatest_number}
+use Rattle.re_terms.specs.Updates.{Update, IsIn, covered, IsCausallyClosed, IsNext, IsCausalLog, greatest_stamp, write_stamp, count_of, next_update, operation_of, vector_of, greatest_number}
 use Rattle.re_terms.specs.Vectors.{covers, AtMost, with_dot}
 use Rattle.re_terms.specs.WordOrder.{pair_cmp}
 use Rattle.re_terms.specs.Listed.{plain}
