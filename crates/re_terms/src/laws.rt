@@ -1,6 +1,7 @@
 //! The laws of replicated states: what devices that exchange their states can rely on.
 ghost use Rattle.std.specs.Prelude.{◌≡◌, ◌<◌, ◌++◌, ◌∷◌, ℕ, List, [], length, slice_index};
 ghost use Rattle.re_terms.specs.JointLogs.{Further, all_of, IsOneOf, AllFollow};
+ghost use Rattle.re_terms.specs.Replication.{JoinLaw};
 ghost use Rattle.re_terms.specs.Shapes.{start_replicated};
 ghost use Rattle.re_terms.specs.Updates.{Update, IsCausalLog, IsCausallyClosed, IsIn, IsNext, count_of, covered, next_update, operation_of};
 ghost use Rattle.re_terms.specs.UpdateSets.{SameUpdates, union};
@@ -10,6 +11,22 @@ ghost use Rattle.re_terms.specs.Vectors.{join_vectors, with_dot};
 ghost use Rattle.re_terms.specs.Views.{view_of};
 ghost use Rattle.re_terms.specs.declared.replicated.RepOp.{RepOp};
 ghost use Rattle.re_terms.specs.declared.replicated.Shape.{Shape};
+ghost use Rattle.re_terms.specs.declared.word.Word.{Word};
+
+/// A kind of replicated cell. Its merge, of two values with the vectors of their devices, gives of what two causally
+/// closed parts of a log make what their union makes. It has no call when a program runs.
+pub trait Replicated {
+    /// What a cell of this kind consists of.
+    type Content;
+
+    /// What updates make of the cell at a place, where the kind's start word is this one.
+    ghost made: { Word → ℕ → List Update → Self.Content };
+
+    /// The merge of two values, with their vectors.
+    ghost merged: { List ℕ → List ℕ → Self.Content → Self.Content → Self.Content };
+
+    ghost join_law: { (start : Word) (cell : ℕ) → JoinLaw merged (made start cell) };
+}
 
 /// The join of the states of two causally closed parts of a log is the state of what either covers, which is causally
 /// closed again.

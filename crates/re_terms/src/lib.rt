@@ -27,6 +27,7 @@ pub use copying::TryCopy;
 pub use entry::{Admitted, Entry, Logged, Put, State, Turn};
 pub use expr::{Expr, Op};
 pub use kinds::{allows, layout};
+pub use laws::Replicated;
 pub use program::{Body, Decl, Program};
 pub use raw::{RawBody, RawDecl, RawPart, RawTurn, Tree};
 pub use raw_expr::{RawExpr, RawLit};

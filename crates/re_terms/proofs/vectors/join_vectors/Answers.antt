@@ -4,6 +4,4 @@ use Rattle.re_terms.proofs.vectors.join_vectors.Goals as goal
 
 pub returns : goal.returns
 returns c =
-    let ta = c.told-a in
-    let tb = c.told-b in
     greater_is c.loop-i.counts c.args.a.now.counts c.args.b.now.counts (omega arith) (omega arith) (λ k lt. c.loop-i.invariant.done k (omega arith))
