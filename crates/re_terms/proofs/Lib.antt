@@ -1,10 +1,12 @@
 pub mod Arrays
 pub mod Ascending
 pub mod Counters
+pub mod Fitting
 pub mod Joins
 pub mod Joint
 pub mod Lists
 pub mod Logs
+pub mod MemberValues
 pub mod Members
 pub mod OneMore
 pub mod Operations

@@ -12,6 +12,7 @@ pub mod Programs
 pub mod Propagation
 pub mod Replication
 pub mod Runs
+pub mod ShapedUpdates
 pub mod Shapes
 pub mod Signal
 pub mod SignalWords

@@ -1,8 +1,9 @@
 //! The laws of replicated states: what devices that exchange their states can rely on.
-ghost use Rattle.std.specs.Prelude.{◌≡◌, ◌<◌, ◌++◌, ◌∷◌, ℕ, List, [], length, slice_index};
+ghost use Rattle.std.specs.Prelude.{true, ◌≡◌, ◌<◌, ◌++◌, ◌∷◌, ℕ, List, [], length, slice_index};
 ghost use Rattle.re_terms.specs.JointLogs.{Further, all_of, IsOneOf, AllFollow};
 ghost use Rattle.re_terms.specs.Replication.{JoinLaw};
-ghost use Rattle.re_terms.specs.Shapes.{start_replicated};
+ghost use Rattle.re_terms.specs.ShapedUpdates.{IsWithinLimits, is_update_of};
+ghost use Rattle.re_terms.specs.Shapes.{FitsShape, start_replicated};
 ghost use Rattle.re_terms.specs.Updates.{Update, IsCausalLog, IsCausallyClosed, IsIn, IsNext, count_of, covered, next_update, operation_of};
 ghost use Rattle.re_terms.specs.UpdateSets.{SameUpdates, union};
 ghost use Rattle.re_terms.specs.UpdateStates.{after_operation, join_states, state_of_updates};
@@ -40,6 +41,7 @@ pub fn join_law()
 pub fn operation_law()
     ensures state { (shape : Shape) (log : List Update) (v : List ℕ) (device : ℕ) (op : RepOp) → IsCausalLog log → IsCausallyClosed log v → device < 16 → after_operation shape device op (state_of_updates shape (covered log v)) ≡ state_of_updates shape (covered log v ++ next_update log v device op ∷ []) }
     ensures next { (log : List Update) (v : List ℕ) (device : ℕ) (op : RepOp) → IsCausallyClosed log v → device < 16 → length v ≡ 16 → slice_index v device ≡ count_of device log → IsNext log (next_update log v device op) }
+    ensures causal { (log : List Update) (v : List ℕ) (device : ℕ) (op : RepOp) → IsCausalLog log → IsCausallyClosed log v → device < 16 → length v ≡ 16 → slice_index v device ≡ count_of device log → IsCausalLog (log ++ next_update log v device op ∷ []) }
 {}
 
 /// What a state of updates shows of each cell is the value that the updates give it.
@@ -47,11 +49,12 @@ pub fn view_law()
     ensures { (shape : Shape) (us : List Update) → ((u : Update) → IsIn u us → u.dot.device < 16) → view_of (state_of_updates shape us) ≡ view_of_updates shape us }
 {}
 
-/// A state depends on which updates there are, and not on their order; and the join of two states is that of the updates
-/// of both. No updates make the start state.
+/// A state and its values depend on which updates there are, and not on their order; and the join of two states is that
+/// of the updates of both. No updates make the start state.
 pub fn members_law()
     ensures none { (shape : Shape) → state_of_updates shape [] ≡ start_replicated shape }
     ensures same { (shape : Shape) (log us vs : List Update) → IsCausalLog log → SameUpdates us vs → ((u : Update) → IsIn u vs → IsIn u log) → state_of_updates shape us ≡ state_of_updates shape vs }
+    ensures values { (shape : Shape) (log us vs : List Update) → IsCausalLog log → SameUpdates us vs → ((u : Update) → IsIn u vs → IsIn u log) → view_of_updates shape us ≡ view_of_updates shape vs }
     ensures union { (log us vs : List Update) (v w : List ℕ) → IsCausalLog log → IsCausallyClosed log v → SameUpdates us (covered log v) → SameUpdates vs (covered log w) → SameUpdates (union us vs) (covered log (join_vectors v w)) }
     ensures joined { (shape : Shape) (log us vs : List Update) (v w : List ℕ) → IsCausalLog log → IsCausallyClosed log v → IsCausallyClosed log w → SameUpdates us (covered log v) → SameUpdates vs (covered log w) → join_states (state_of_updates shape us) (state_of_updates shape vs) ≡ state_of_updates shape (union us vs) }
 {}
@@ -73,4 +76,9 @@ pub fn joint_law()
     ensures causal { (log : List Update) (xs : List Further) → IsCausalLog log → AllFollow log xs → IsCausalLog (log ++ all_of xs) }
     ensures closed { (log : List Update) (xs : List Further) (x : Further) (v : List ℕ) → IsOneOf x xs → IsCausallyClosed (log ++ x.updates) v → IsCausallyClosed (log ++ all_of xs) v }
     ensures covered { (log : List Update) (xs : List Further) (x : Further) (v : List ℕ) → IsCausalLog log → AllFollow log xs → IsOneOf x xs → IsCausallyClosed (log ++ x.updates) v → covered (log ++ all_of xs) v ≡ covered (log ++ x.updates) v }
+{}
+
+/// The state of updates of a shape, which are all in one causal log, fits the shape where it is within the limits.
+pub fn fits_law()
+    ensures { (shape : Shape) (log us : List Update) → IsCausalLog log → ((u : Update) → IsIn u us → IsIn u log) → ((u : Update) → IsIn u us → is_update_of shape u ≡ true) → IsWithinLimits (state_of_updates shape us) → FitsShape shape (state_of_updates shape us) }
 {}

@@ -25,3 +25,25 @@ pub fn join_vectors(a: &Vector, b: &Vector) -> Vector
     }
     Vector { counts }
 }
+
+#[cfg(test)]
+mod tests {
+    use super::*;
+    use std::test::Fail;
+
+    #[test]
+    fn vectors_cover_and_join(rt: HostRuntime) -> Result<(), Fail> {
+        let mut v = Vector { counts: [0; 16] };
+        v.counts[0] = 2;
+        let cases = [(0, 0, false), (0, 1, true), (0, 2, true), (0, 3, false), (1, 1, false)];
+        for (device, number, covered) in cases {
+            assert_eq!(rt; covers(&v, Dot { device, number }), covered);
+        }
+        let mut w = Vector { counts: [0; 16] };
+        w.counts[0] = 1;
+        w.counts[15] = 4;
+        let joined = join_vectors(&v, &w);
+        assert_eq!(rt; joined.counts, [2, 0, 0, 0, 0, 0, 0, 0, 0, 0, 0, 0, 0, 0, 0, 4]);
+        Ok(())
+    }
+}
