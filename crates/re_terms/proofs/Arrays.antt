@@ -1,4 +1,4 @@
--- What the code's proofs cite.
+-- Lists with the greater number in each place.
 use Rattle.std.proofs.Common.{◌≡◌, ℕ, suc, ◌<◌, List, [], ◌∷◌, refl, ap, arith, length, get_or}
 use Rattle.std.specs.Prelude.{max}
 use Rattle.std.proofs.lemmas.Bool.Decides.{nat_tests}
@@ -13,7 +13,7 @@ length-greater_each [] (y ∷ ys) e = absurd (omega arith)
 length-greater_each (x ∷ xs) [] e = refl
 length-greater_each (x ∷ xs) (y ∷ ys) e = ap suc (length-greater_each xs ys (omega arith))
 
--- a list with the greater_each number in each place
+-- a list with the greater number in each place
 pub greater_is : (zs xs ys : List ℕ) → length xs ≡ length ys → length zs ≡ length xs → ((k : ℕ) → k < length xs → get_or zs k 0 ≡ max (get_or xs k 0) (get_or ys k 0)) → zs ≡ greater_each xs ys
 unfolding greater_each
 greater_is [] [] [] e f h = refl

@@ -21,7 +21,7 @@ module _ {X : Type 0} where
       ]
       ∙ sym (sum_by-cons (λ x. cond (p x) (f x) 0) x xs)
 
--- a device's number in a row, covered a vector
+-- a device's number in the row of what a vector covers
 abbrev sum_covered : (Act → ℕ) → ℕ → ℕ → List Update → List ℕ → ℕ
 sum_covered f cell d b v = sum_by (part_of f cell d) (covered b v)
 

@@ -1,7 +1,7 @@
 -- The state of updates of a shape, where it is within the limits, fits the shape.
-use Rattle.std.proofs.Common.{◌≡◌, ℕ, zero, suc, ◌+◌, ◌<◌, ◌≤◌, ◌^◌, Bool, true, false, cond, List, [], ◌∷◌, Option, None, Some, refl, sym, ap, ◌∙◌, subst, arith, inl, inr, length, not}
+use Rattle.std.proofs.Common.{◌≡◌, ℕ, suc, ◌+◌, ◌<◌, ◌≤◌, ◌^◌, Bool, true, false, cond, List, [], ◌∷◌, None, Some, refl, sym, ap, ◌∙◌, subst, arith, inl, inr, length, not}
 use Rattle.std.specs.Prelude.{◌&&◌, ◌||◌, nat_eq, nat_lt, nat_le, slice_get, slice_index, option_map}
-use Rattle.std.specs.List.{All, list_all, list_any, sum_by}
+use Rattle.std.specs.List.{list_all, list_any, sum_by}
 use Rattle.std.specs.Option.{option_map_or}
 use Rattle.std.specs.Ordering.{eq_by_cmp}
 use Rattle.std.proofs.lemmas.Bool.{cases_lt}
@@ -11,28 +11,25 @@ use Rattle.std.proofs.lemmas.List.Sums.{sum_by-cons}
 use Rattle.re_terms.specs.Admission.{is_act_of}
 use Rattle.re_terms.specs.CellStates.{Pairing.AddWins, part_of, row_of, increment, decrement, inserted, inserted_by, pairs_of, takes, unwritten, written, written_by, written_of}
 use Rattle.re_terms.specs.ShapedUpdates.{is_update_of, IsWithin, IsWithinLimits}
-use Rattle.re_terms.specs.Shapes.{AreOfDevices, FitsKind, FitsRegister, FitsShape, is_pair_of, is_word_of}
+use Rattle.re_terms.specs.Shapes.{FitsKind, FitsRegister, FitsShape, is_pair_of, is_word_of}
 use Rattle.re_terms.specs.UpdateStates.{content_of, contents_from, state_of_updates}
 use Rattle.re_terms.specs.Updates.{Update, IsIn, IsCausalLog, greatest_number, vector_of}
-use Rattle.re_terms.specs.Vectors.{by_device, covers}
+use Rattle.re_terms.specs.Vectors.{by_device}
 use Rattle.re_terms.specs.WordOrder.{pair_cmp}
 use Rattle.re_terms.specs.declared.word.Kind.{Kind}
 use Rattle.re_terms.specs.declared.word.Word.{Word}
 use Rattle.re_terms.specs.declared.replicated.Act.{Act}
 use Rattle.re_terms.specs.declared.replicated.Act.TheVariants.{Add, Insert, Remove, Write}
-use Rattle.re_terms.specs.declared.replicated.Dot.{Dot}
 use Rattle.re_terms.specs.declared.replicated.Pair.{Pair}
-use Rattle.re_terms.specs.declared.replicated.RCell.{RCell}
-use Rattle.re_terms.specs.declared.replicated.RCell.TheVariants as content
 use Rattle.re_terms.specs.declared.replicated.RKind.{RKind}
 use Rattle.re_terms.specs.declared.replicated.RKind.TheVariants as kind
 use Rattle.re_terms.specs.declared.replicated.Shape.{Shape}
 use Rattle.re_terms.specs.declared.replicated.Written.{Written}
-use Rattle.re_terms.proofs.Logs.{Numbered, numbered_of, at-by_device, length-by_device, covers-from, covers-gives, greatest_number-le, greatest_number-has, IsIn-from_any}
+use Rattle.re_terms.proofs.Logs.{numbered_of, at-by_device, length-by_device, greatest_number-le, greatest_number-has, IsIn-from_any}
 use mathlib.Core.Bool.{true≢false}
 use Rattle.re_terms.proofs.Lists.{passes}
 use Rattle.re_terms.proofs.OneMore.{pairs_ascend}
-use Rattle.re_terms.proofs.Registers.{Best, best, Stamped, stamped_of, writes}
+use Rattle.re_terms.proofs.Registers.{best, stamped_of, writes}
 use Rattle.re_terms.proofs.Sets.{adds, adds-dot, has-pairs_of}
 use Rattle.re_terms.proofs.Values.{content_at}
 use Rattle.re_terms.proofs.WordOrders.{same_pair-is, same_pair-refl}

@@ -1,9 +1,9 @@
--- The join_states law over all cells.
+-- The law of joins over all cells.
 use Rattle.std.proofs.Common.{◌≡◌, ℕ, ◌+◌, List, [], ◌∷◌, refl, ap, ◌∙◌, arith}
 use Rattle.std.specs.Prelude.{max}
 use Rattle.re_terms.specs.declared.word.Word.{Word}
 use Rattle.re_terms.specs.Replication.{JoinLaw}
-use Rattle.re_terms.specs.CellStates.{Pairing, rows_of, join_rows, pairs_of, join_pairs, written_of, join_written, Pairing.AddWins, Pairing.Latest}
+use Rattle.re_terms.specs.CellStates.{Pairing, rows_of, join_rows, pairs_of, join_pairs, written_of, join_written, Pairing.AddWins}
 use Rattle.re_terms.specs.UpdateStates.{content_of, contents_from, state_of_updates, join_cell, join_cells, join_states}
 use Rattle.re_terms.specs.Updates.{Update, covered, IsCausallyClosed, IsCausalLog, vector_of, greatest_number}
 use Rattle.re_terms.specs.Vectors.{by_device, greater_each, join_vectors}

@@ -1,4 +1,4 @@
--- The law of joint images.
+-- The law of joint logs: further updates of several devices behind one log.
 use Rattle.std.proofs.Common.{◌≡◌, ◌≢◌, ℕ, ◌+◌, ◌<◌, Bool, true, false, cond, List, [], ◌∷◌, ◌++◌, refl, sym, ap, ◌∙◌, subst, arith, inl, inr, append_assoc}
 use Rattle.std.specs.List.{filter}
 use Rattle.std.proofs.lemmas.List.{append-nil}
@@ -31,7 +31,7 @@ unfolding count_of
 count-none d [] h = refl
 count-none d (x ∷ xs) h = count-append d (x ∷ []) xs ∙ let a = h x (inl refl) in let e = count-none d xs (λ u k. h u (inr k)) in grind (arith, nat_tests)
 
--- the numbers of what follows are above those of the numbered
+-- the numbers of what follows are above those of the log
 above_log : (us xs : List Update) → IsContinuation us xs → (u : Update) → IsIn u xs → count_of u.dot.device us < u.dot.number
 above_log us [] h u k = absurd k
 above_log us (x ∷ xs) h u (inl e) = subst (λ y. count_of y.dot.device us < y.dot.number) e (let n = h.0.number in omega arith)
@@ -159,7 +159,7 @@ joint_covered b xs x v causal h one closed =
     ∙ ap (λ l. covered b v ++ l) (covered_all b (numbered_of b causal) x (follows_of b x xs h one) v closed xs h one)
     ∙ sym (filter-append (λ u. covers v u.dot) b x.updates)
 
--- ---- the numbered grows
+-- ---- the log grows
 
 pub closed_grown : (b ys : List Update) (v : List ℕ) → IsCausallyClosed b v → IsCausallyClosed (b ++ ys) v
 closed_grown b ys v closed = closed_more b (b ++ ys) v (λ u h. IsIn-left u b ys h) closed

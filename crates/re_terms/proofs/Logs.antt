@@ -1,4 +1,4 @@
--- Books: what is covered a vector, and that each dot is there once.
+-- Causal logs: what a vector covers of them, and that each dot is there once.
 use Rattle.std.proofs.Common.{◌≡◌, ℕ, zero, suc, zero-add, ◌+◌, ◌<◌, ◌≤◌, Bool, true, false, cond, List, [], ◌∷◌, ◌++◌, refl, sym, ap, ◌∙◌, subst, arith, inl, inr, append_assoc, length}
 use Rattle.std.specs.Prelude.{◌&&◌, ◌||◌, ◌⊎◌, max, nat_eq, nat_lt, nat_le, slice_index}
 use Rattle.std.specs.List.{list_any, filter}
@@ -97,9 +97,9 @@ IsIn-from_any f (x ∷ xs) e =
       | false ↦ λ _ b. let r = IsIn-from_any f xs b in (r.0, inr r.1, r.2)
     ] refl e
 
--- ---- causal books
+-- ---- causal logs
 
--- what holds of no updates, and with each update that may come next, holds of each causal numbered
+-- what holds of no updates, and with each update that may come next, holds of each causal log
 pub by_logs : (P : List Update → Type 0) → P [] → ((us : List Update) (u : Update) → P us → IsNext us u → P (us ++ u ∷ [])) → (b : List Update) → IsCausalLog b → P b
 by_logs P none more b causal = go [] b none causal
   where
@@ -111,7 +111,7 @@ pub count-push : (d : ℕ) (us : List Update) (u : Update) → count_of d (us ++
 unfolding count_of
 count-push d us u = sum_by-append _ us (u ∷ []) ∙ ap (λ n. count_of d us + n) (zero-add _)
 
--- what a causal numbered has
+-- the devices and numbers of a causal log
 pub record Numbered (us : List Update) : Type 0 where
   pub device : (u : Update) → IsIn u us → u.dot.device < 16
   pub low : (u : Update) → IsIn u us → 0 < u.dot.number
@@ -154,7 +154,7 @@ numbered_more us u numbered is_next =
 pub numbered_of : (b : List Update) → IsCausalLog b → Numbered b
 numbered_of b causal = by_logs Numbered numbered_none numbered_more b causal
 
--- ---- covered a closed vector
+-- ---- what a closed vector covers
 
 pub seen_covered : (b : List Update) (v : List ℕ) → Numbered b → IsCausallyClosed b v → (u : Update) → IsIn u b → covers v u.dot ≡ true → AtMost u.seen v
 seen_covered b v numbered closed u h e =
@@ -223,7 +223,7 @@ pub covers-vector_of : (b : List Update) (v : List ℕ) → Numbered b → IsCau
 unfolding covers
 covers-vector_of b v numbered closed q = ap (λ n. nat_lt 0 q.number && nat_le q.number n) (at-vector_of b v numbered closed q.device)
 
--- the join_states of closed vectors is closed
+-- the join of closed vectors is closed
 pub closed_join : (b : List Update) (v w : List ℕ) → IsCausallyClosed b v → IsCausallyClosed b w → IsCausallyClosed b (join_vectors v w)
 closed_join b v w cv cw d e =
     elim (covers v d) as (λ x. covers v d ≡ x → (x || covers w d) ≡ true → (u : Update) × IsIn u b × (u.dot ≡ d) × AtMost u.seen (greater_each v w)) [

@@ -14,14 +14,14 @@ use Rattle.re_terms.specs.declared.replicated.Pair.{Pair}
 use Rattle.re_terms.specs.declared.replicated.Act.{Act}
 use Rattle.re_terms.specs.declared.replicated.Act.TheVariants.{Add, Insert, Remove, Write}
 use Rattle.re_terms.specs.declared.replicated.Written.{Written}
-use Rattle.re_terms.specs.CellStates.{Pairing, Pairing.AddWins, Pairing.Latest, inserted, inserted_by, takes, takes_element, live, pairs_of, has_pair, part_of, row_of, written, written_by, or_later, join_written, is_after, greatest_write}
+use Rattle.re_terms.specs.CellStates.{Pairing, Pairing.AddWins, inserted, inserted_by, takes, takes_element, live, pairs_of, part_of, row_of, written, written_by, or_later, join_written, is_after, greatest_write}
 use Rattle.re_terms.specs.UpdateStates.{raise, without}
-use Rattle.re_terms.specs.Updates.{Update, IsIn, covered, IsNext, IsCausalLog, greatest_stamp, stamp_in, write_stamp, vector_of, greatest_number}
+use Rattle.re_terms.specs.Updates.{Update, IsIn, covered, IsNext, IsCausalLog, greatest_stamp, stamp_in, write_stamp}
 use Rattle.re_terms.specs.Vectors.{covers, AtMost, by_device}
 use Rattle.re_terms.specs.WordOrder.{pair_cmp, ascending, same_word}
 use Rattle.re_terms.proofs.WordOrders.{same_word-is, same_word-refl, same_pair-is, ascending_same, ascending_from, ascending_sorted}
 use Rattle.re_terms.proofs.Lists.{any-append, passes}
-use Rattle.re_terms.proofs.Logs.{numbered_of, covers-from, covers-gives, covers-up, at-by_device, length-by_device, IsIn-from_filter, IsIn-from_any, seen_covered, greatest_number-has}
+use Rattle.re_terms.proofs.Logs.{numbered_of, covers-gives, covers-up, at-by_device, length-by_device, IsIn-from_filter, IsIn-from_any, seen_covered}
 use Rattle.re_terms.proofs.Sets.{adds, adds-dot, takes-covers, has-live, has-pairs_of, kept}
 use Rattle.re_terms.proofs.Registers.{stamp_in-write}
 
@@ -76,9 +76,6 @@ inserted_point a t e s s' c h k n q = grind arith
 
 removed_point : (a t s s' c : Bool) → (a ≡ true → c ≡ true) → s' ≡ s → ((a || false) && not (t || (s' && c))) ≡ ((a && not t) && not s)
 removed_point a t s s' c h q = grind arith
-
-replaced_point : (a t e c : Bool) → (a ≡ true → c ≡ true) → (t ≡ true → c ≡ true) → (e ≡ true → c ≡ false) → ((a || e) && not (t || c)) ≡ (e || false)
-replaced_point a t e c h k n = grind arith
 
 kept_point : (a t : Bool) → ((a || false) && not (t || false)) ≡ (a && not t)
 kept_point a t = grind arith
@@ -139,17 +136,6 @@ module _ (us : List Update) (u : Update) (past : Past us u) where
     where
       sorted : IsStrictlySortedBy pair_cmp (pairs_of AddWins u.cell us)
       sorted = ascending_sorted (live AddWins u.cell us)
-
-  -- a write of a register that keeps each write
-  pub pairs-replace : (w : Word) → u.act ≡ Write w → pairs_of Latest u.cell (us ++ u ∷ []) ≡ ascending (record { element = w; dot = u.dot } ∷ [])
-  unfolding pairs_of
-  pairs-replace w act = ascending_same _ _ (λ q.
-      let new : Pair = record { element = w; dot = u.dot } in
-      let a : adds Latest u.cell q u ≡ eq_by_cmp pair_cmp q new = ap (passes (eq_by_cmp pair_cmp q)) (inserted-at Latest u.cell u refl ∙ ap (λ x. inserted_by Latest x u.dot) act) in
-      let t : takes Latest u.cell q u ≡ covers u.seen q.dot = takes-at Latest u.cell q u refl ∙ ap (λ x. takes_element Latest q.element x && covers u.seen q.dot) act in
-      live-push us u past Latest u.cell q
-      ∙ (λ i. (list_any (adds Latest u.cell q) us || a i) && not (list_any (takes Latest u.cell q) us || t i))
-      ∙ replaced_point _ _ _ (covers u.seen q.dot) (added_known us u past Latest u.cell q) (taken_known us u past Latest u.cell q) (λ k. ap (λ p. covers u.seen p.dot) (same_pair-is q new k) ∙ past.new))
 
   pub pairs-same : (m : Pairing) (cell : ℕ) → inserted m cell u ≡ None → ((q : Pair) → takes m cell q u ≡ false) → pairs_of m cell (us ++ u ∷ []) ≡ pairs_of m cell us
   unfolding pairs_of
@@ -229,23 +215,8 @@ unfolding greatest_write greatest_stamp
 stamp-write cell r [] = omega arith
 stamp-write cell r (u ∷ us) = stamp-write cell (or_later r (written cell u)) us ∙ let k = one_stamp cell r u in omega arith
 
--- ---- a set's pairs fit
+-- ---- a set's pairs
 
 pub pairs_ascend : (m : Pairing) (cell : ℕ) (us : List Update) → IsStrictlySortedBy pair_cmp (pairs_of m cell us)
 unfolding pairs_of
 pairs_ascend m cell us = ascending_sorted (live m cell us)
-
-left_true : (a b : Bool) → (a && b) ≡ true → a ≡ true
-left_true true b e = refl
-left_true false b e = e
-
-pub pairs_covered : (b : List Update) (m : Pairing) (cell : ℕ) (us : List Update) (p : Pair) → IsCausalLog b → ((u : Update) → IsIn u us → IsIn u b) → has_pair (pairs_of m cell us) p ≡ true → (p.dot.device < 16) × (covers (vector_of us) p.dot ≡ true)
-unfolding has_pair vector_of
-pairs_covered b m cell us p causal within e =
-    let r = IsIn-from_any (adds m cell p) us (left_true _ _ (sym (has-pairs_of m cell us p) ∙ e)) in
-    let d : r.0.dot ≡ p.dot = adds-dot m cell p r.0 r.2 in
-    let numbered = numbered_of b causal in
-    let small = numbered.device r.0 (within r.0 r.1) in
-    let low = numbered.low r.0 (within r.0 r.1) in
-    let high = greatest_number-has r.0.dot.device us r.0 r.1 refl in
-    subst (λ q. (q.device < 16) × (covers (vector_of us) q ≡ true)) d (small, covers-from (vector_of us) r.0.dot low (let a = at-by_device (λ d. greatest_number d us) r.0.dot.device small in omega arith))

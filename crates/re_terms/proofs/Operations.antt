@@ -13,13 +13,11 @@ use Rattle.re_terms.specs.declared.replicated.Act.{Act}
 use Rattle.re_terms.specs.declared.replicated.Act.TheVariants.{Add, Insert, Remove, Write}
 use Rattle.re_terms.specs.declared.replicated.Written.{Written}
 use Rattle.re_terms.proofs.Logs.{numbered_of, covers-from, covers-gives, covers-up, IsIn-from_filter, IsIn-left, IsIn-right, greatest-covered, at-vector_of, fresh, seen_covered}
-use Rattle.re_terms.proofs.OneMore.{Past, past_of, not_true, same_number, inserted-at, inserted-other, takes-at, takes-other, pairs-insert, pairs-remove, pairs-replace, pairs-same, row-push, row-same, write-push, stamp-write, set-by_device}
-use Rattle.std.specs.List.Sorted.{IsStrictlySortedBy}
-use Rattle.re_terms.specs.CellStates.{Pairing.AddWins, Pairing.Latest, inserted_by, takes_element, pairs_of, row_of, rows_of, increment, decrement, unwritten, written, written_by, or_later, join_written, is_after, written_of}
+use Rattle.re_terms.proofs.OneMore.{Past, past_of, not_true, same_number, inserted-at, inserted-other, takes-at, takes-other, pairs-insert, pairs-remove, pairs-same, row-push, row-same, write-push, stamp-write, set-by_device}
+use Rattle.re_terms.specs.CellStates.{Pairing.AddWins, inserted_by, takes_element, pairs_of, row_of, rows_of, increment, decrement, unwritten, written, written_by, or_later, join_written, is_after, written_of}
 use Rattle.re_terms.specs.UpdateStates.{content_of, contents_from, state_of_updates, raise, act_on, change_at, after_operation}
 use Rattle.re_terms.specs.Updates.{Update, IsIn, covered, IsCausallyClosed, IsNext, IsCausalLog, greatest_stamp, write_stamp, count_of, next_update, operation_of, vector_of, greatest_number}
 use Rattle.re_terms.specs.Vectors.{covers, AtMost, with_dot}
-use Rattle.re_terms.specs.WordOrder.{pair_cmp}
 use Rattle.re_terms.specs.Listed.{plain}
 use Rattle.re_terms.specs.declared.replicated.RCell.TheVariants as content
 use Rattle.re_terms.specs.declared.replicated.RKind.{RKind}
@@ -27,14 +25,9 @@ use Rattle.re_terms.specs.declared.replicated.RepOp.{RepOp}
 use Rattle.re_terms.specs.declared.word.Kind.{Kind}
 use Rattle.re_terms.specs.declared.replicated.RKind.TheVariants as kind
 use Rattle.re_terms.specs.declared.replicated.Shape.{Shape}
-use Rattle.re_terms.proofs.WordOrders.{ascending_is}
 use Rattle.re_terms.proofs.Joint.{IsContinuation-append}
 
 -- ---- one cell
-
-one_sorted : (p : Pair) → IsStrictlySortedBy pair_cmp (p ∷ [])
-unfolding IsStrictlySortedBy
-one_sorted p = (tt, tt)
 
 unequal : (a b : ℕ) → a ≢ b → nat_eq a b ≡ false
 unequal a b h = grind (arith, nat_tests)
@@ -136,7 +129,7 @@ unfolding greatest_number
 greatest_number-push d [] u = omega arith
 greatest_number-push d (x ∷ us) u = let k = greatest_number-push d us u in omega arith
 
--- ---- the numbered
+-- ---- the log
 
 module _ (b : List Update) (u : Update) (causal : IsCausalLog b) (is_next : IsNext b u) where
   pub causal_push : IsCausalLog (b ++ u ∷ [])
@@ -207,12 +200,12 @@ module _ (b : List Update) (u : Update) (causal : IsCausalLog b) (is_next : IsNe
       ∙ (λ j. record { vector = record { counts = vector_push j }; cells = plain (cells_push us u (past_of b u causal is_next) shape.cells.items 0 u.cell (omega arith) j) })
       ∙ ap (λ n. record { vector = record { counts = slice_set (vector_of us) u.dot.device n }; cells = plain (change_at u.cell (λ k. act_on k (record { device = u.dot.device; number = n }) u.act) shape.cells.items (contents_from 0 shape.cells.items us)) }) (sym number_is)
 
--- the next update of a device whose vector has all its numbers is_next
+-- the next update of a device whose vector has all its numbers may come next
 pub next_update_is_next : (b : List Update) (v : List ℕ) (device : ℕ) (op : RepOp) → IsCausallyClosed b v → device < 16 → length v ≡ 16 → slice_index v device ≡ count_of device b → IsNext b (next_update b v device op)
 next_update_is_next b v device op closed small places own =
     record { device = small; places = places; number = ap (λ n. n + 1) own; own = own; past = closed; stamp = refl }
 
--- ---- one more update, whatever else the numbered has
+-- ---- one more update, whatever else the log has
 
 module _ (b : List Update) (v : List ℕ) (device : ℕ) (op : RepOp) (causal : IsCausalLog b) (closed : IsCausallyClosed b v) (small : device < 16) where
   abbrev next : Update

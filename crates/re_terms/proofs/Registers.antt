@@ -115,7 +115,7 @@ greatest_stamp-has cell [] u s h e = absurd h
 greatest_stamp-has cell (x ∷ us) u s (inl a) e = let k = stamp_in-write cell x s (ap (written cell) a ∙ e) in omega arith
 greatest_stamp-has cell (x ∷ us) u s (inr h) e = let k = greatest_stamp-has cell us u s h e in omega arith
 
--- the stamps of a causal numbered
+-- the stamps of a causal log
 pub record Stamped (us : List Update) : Type 0 where
   pub numbered : Numbered us
   pub low : (cell : ℕ) (u : Update) (s : Written) → IsIn u us → written cell u ≡ Some s → 0 < s.stamp

@@ -49,7 +49,7 @@ any-covered f b v w =
     spread true false false = refl
     spread false b c = refl
 
--- the law at one pair: whether it is inserted and taken in each within, and covered
+-- the law at one pair: whether it is inserted and taken in each part, and covered
 merged : (av aw tv tw cv cw : Bool) → (tv ≡ true → cv ≡ true) → (tw ≡ true → cw ≡ true) → (av ≡ true → cw ≡ true → aw ≡ true) → (aw ≡ true → cv ≡ true → av ≡ true)
     → ((((av && not tv) && ((aw && not tw) || not cw))) || ((aw && not tw) && not cv)) ≡ ((av || aw) && not (tv || tw))
 merged av aw tv tw cv cw h i j k = grind arith
@@ -86,7 +86,7 @@ taken_covered b v numbered closed m cell q e =
     let k = IsIn-from_filter (λ u. covers v u.dot) r.0 b r.1 in
     covers-up _ v q.dot (seen_covered b v numbered closed r.0 k.0 k.1) (takes-covers m cell q r.0 r.2)
 
--- an insert that one within has and the other covers, it has too
+-- an insert that one part has and the other covers, it has too
 pub added_covered : (b : List Update) (v w : List ℕ) (m : Pairing) (cell : ℕ) (q : Pair) → list_any (adds m cell q) (covered b v) ≡ true → covers w q.dot ≡ true → list_any (adds m cell q) (covered b w) ≡ true
 added_covered b v w m cell q e h =
     let r = IsIn-from_any (adds m cell q) (covered b v) e in

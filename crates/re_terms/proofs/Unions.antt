@@ -1,12 +1,10 @@
 -- A union of updates gives the join of their states.
-use Rattle.std.proofs.Common.{◌≡◌, ℕ, ◌+◌, Bool, List, [], ◌∷◌, refl, sym, ap, ◌∙◌, inl, inr, true, false, cond, not, ◌++◌}
+use Rattle.std.proofs.Common.{◌≡◌, ℕ, Bool, List, [], ◌∷◌, refl, sym, ap, ◌∙◌, inl, inr, true, false, cond, not, ◌++◌}
 use Rattle.std.specs.Prelude.{not, ◌⊎◌, ◌||◌}
 use Rattle.std.specs.List.{filter}
 use Rattle.re_terms.specs.UpdateStates.{state_of_updates, join_states}
 use Rattle.re_terms.specs.Updates.{Update, IsIn, IsCausalLog, vector_of, covered, IsCausallyClosed}
 use Rattle.re_terms.specs.Vectors.{covers, join_vectors, greater_each}
-use Rattle.re_terms.specs.declared.replicated.RCell.TheVariants as content
-use Rattle.re_terms.specs.declared.replicated.RKind.TheVariants as kind
 use Rattle.re_terms.specs.declared.replicated.Shape.{Shape}
 use Rattle.re_terms.proofs.Logs.{Numbered, numbered_of, by_logs, numbered_more, fresh, IsIn-left, IsIn-right, IsIn-cases, IsIn-filter, IsIn-from_filter, covers-greater_each, covers-vector_of}
 use Rattle.re_terms.proofs.Registers.{one_of, or_true}
@@ -20,11 +18,7 @@ once_push : (us : List Update) (u : Update) → EachOnce us → (IsIn u us → �
 once_push [] u h k = (λ z. z, tt)
 once_push (x ∷ us) u h k = (λ m. elim (IsIn-cases x us (u ∷ []) m) [ inl a ↦ h.0 a | inr a ↦ elim a [ inl e ↦ k (inl (sym e)) | inr z ↦ z ] ], once_push us u h.1 (λ m. k (inr m)))
 
--- a causal numbered has each update once
-record Whole (us : List Update) : Type 0 where
-  causal : IsCausalLog us
-  once : EachOnce us
-
+-- a causal log has each update once
 pub once_log : (b : List Update) → IsCausalLog b → EachOnce b
 once_log b causal = (by_logs (λ us. Numbered us × EachOnce us) (numbered_of [] tt, tt) (λ us u h is_next. (numbered_more us u h.0 is_next, once_push us u h.1 (λ k. fresh us u h.0 is_next u k refl))) b causal).1
 
@@ -73,7 +67,7 @@ module _ (b us vs : List Update) (v w : List ℕ) (causal : IsCausalLog b) (cv :
             ];
       }
 
--- the join_states of two states is that of the updates of both
+-- the join of two states is that of the updates of both
 pub union_join : (shape : Shape) (b us vs : List Update) (v w : List ℕ) → IsCausalLog b → IsCausallyClosed b v → IsCausallyClosed b w → SameUpdates us (covered b v) → SameUpdates vs (covered b w) → join_states (state_of_updates shape us) (state_of_updates shape vs) ≡ state_of_updates shape (union us vs)
 union_join shape b us vs v w causal cv cw sv sw =
     let in_v = λ (u : Update) (h : IsIn u (covered b v)). (IsIn-from_filter (λ u. covers v u.dot) u b h).0 in

@@ -13,7 +13,7 @@ use Rattle.std.proofs.lemmas.List.Sums.{sum_by-cons, sum-map}
 use Rattle.re_terms.specs.declared.replicated.Pair.{Pair}
 use Rattle.re_terms.specs.declared.replicated.Act.{Act}
 use Rattle.re_terms.specs.declared.replicated.Act.TheVariants.{Add, Insert, Remove, Write}
-use Rattle.re_terms.specs.CellStates.{Pairing, Pairing.AddWins, Pairing.Latest, part_of, row_of, increment, decrement, live, pairs_of}
+use Rattle.re_terms.specs.CellStates.{Pairing, Pairing.AddWins, part_of, row_of, increment, decrement, live, pairs_of}
 use Rattle.re_terms.specs.UpdateStates.{content_of, contents_from, state_of_updates}
 use Rattle.re_terms.specs.Updates.{Update, IsIn}
 use Rattle.re_terms.specs.Arithmetic.{whole}
@@ -23,8 +23,6 @@ use Rattle.re_terms.specs.declared.word.Word.{Word}
 use Rattle.std.specs.declared.cmp.Ordering.{Ordering}
 use Rattle.re_terms.specs.Vectors.{by_device}
 use Rattle.re_terms.specs.WordOrder.{pair_cmp, word_cmp, same_word, ascending, ascending_words, elements_of}
-use Rattle.re_terms.specs.Listed.{plain}
-use Rattle.re_terms.specs.declared.replicated.RCell.TheVariants as content
 use Rattle.re_terms.specs.declared.replicated.RKind.{RKind}
 use Rattle.re_terms.specs.declared.replicated.RKind.TheVariants as kind
 use Rattle.re_terms.specs.declared.replicated.Shape.{Shape}

@@ -1,7 +1,7 @@
 -- Updates of replicated cells, and the logs in which each knows what it has seen.
 -- Read against: device 0 adds 2 to the counter 0, with dot (0, 1), stamp 0 and nothing seen; then device 1, which has seen it, writes the register 1, with dot (1, 1), stamp 1 and 1 seen of device 0.
 -- The two in this order are a causal log, in the other order none. With 1 for device 1 alone a vector is not closed over the log, with 1 for both it is, and with 1 for device 0 alone it covers the first.
-use Rattle.std.specs.Prelude.{ℕ, ◌+◌, ◌<◌, ◌≡◌, ◌⊎◌, Bool, true, cond, max, List, [], ◌∷◌, ◌++◌, length, nat_eq, slice_index}
+use Rattle.std.specs.Prelude.{ℕ, ◌+◌, ◌<◌, ◌≡◌, ◌⊎◌, true, cond, max, List, [], ◌∷◌, ◌++◌, length, nat_eq, slice_index}
 use Rattle.std.specs.List.{filter, count_by}
 use Rattle.re_terms.specs.Vectors.{AtMost, by_device, covers}
 use Rattle.re_terms.specs.declared.replicated.Act.{Act}

@@ -1,7 +1,7 @@
 -- The values that updates give the replicated cells, by which updates there are.
 -- Read against: of `add 2` and `add -3` the word is -1, of `add 9223372036854775807` twice it is fault 1; of two inserts of 4 and one of 9 that nobody took the elements are 4 and 9;
 -- of no write a register of `register m: int = 7` has the word 7.
-use Rattle.std.specs.Prelude.{ℕ, ℤ, pos, ◌+ℤ◌, Bool, false, cond, List, [], ◌∷◌, length, map, nat_eq, Option, Some, option_map, slice_get}
+use Rattle.std.specs.Prelude.{ℕ, ℤ, pos, ◌+ℤ◌, Bool, false, cond, List, [], ◌∷◌, length, nat_eq, Option, Some, option_map, slice_get}
 use Rattle.std.specs.List.{list_any}
 use Rattle.re_terms.specs.Arithmetic.{whole}
 use Rattle.re_terms.specs.CellStates.{Pairing.AddWins, live, written_of}

@@ -35,7 +35,13 @@ mod tests {
     fn vectors_cover_and_join(rt: HostRuntime) -> Result<(), Fail> {
         let mut v = Vector { counts: [0; 16] };
         v.counts[0] = 2;
-        let cases = [(0, 0, false), (0, 1, true), (0, 2, true), (0, 3, false), (1, 1, false)];
+        let cases = [
+            (0, 0, false),
+            (0, 1, true),
+            (0, 2, true),
+            (0, 3, false),
+            (1, 1, false),
+        ];
         for (device, number, covered) in cases {
             assert_eq!(rt; covers(&v, Dot { device, number }), covered);
         }
@@ -43,7 +49,10 @@ mod tests {
         w.counts[0] = 1;
         w.counts[15] = 4;
         let joined = join_vectors(&v, &w);
-        assert_eq!(rt; joined.counts, [2, 0, 0, 0, 0, 0, 0, 0, 0, 0, 0, 0, 0, 0, 0, 4]);
+        assert_eq!(rt;
+            joined.counts,
+            [2, 0, 0, 0, 0, 0, 0, 0, 0, 0, 0, 0, 0, 0, 0, 4]
+        );
         Ok(())
     }
 }
