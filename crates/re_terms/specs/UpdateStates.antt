@@ -1,7 +1,7 @@
 -- Replicated states: those that updates make, their join, and what one operation does to them.
 -- Read against: the state of no updates is the start state; device 1's `insert s 4` on a state whose vector has 6 for it gives the pair of 4 by dot (1, 7) in place of all pairs of 4, and 7 in the vector;
 -- at `register m: int = 0`, device 1's `write m 5` on a register with stamp 3 gives stamp 4, device 1 and the word 5.
-use Rattle.std.specs.Prelude.{ℕ, zero, suc, ◌+◌, not, List, [], ◌∷◌, slice_index, slice_set}
+use Rattle.std.specs.Prelude.{ℕ, ℤ, zero, suc, ◌+◌, not, List, [], ◌∷◌, slice_index, slice_set}
 use Rattle.std.specs.List.{filter}
 use Rattle.re_terms.specs.CellStates.{Pairing.AddWins, rows_of, join_rows, increment, decrement, pairs_of, join_pairs, written_of, join_written}
 use Rattle.re_terms.specs.Listed.{plain}
@@ -19,7 +19,9 @@ use Rattle.re_terms.specs.declared.replicated.RepOp.{RepOp}
 use Rattle.re_terms.specs.declared.replicated.RKind.{RKind}
 use Rattle.re_terms.specs.declared.replicated.RKind.TheVariants as kind
 use Rattle.re_terms.specs.declared.replicated.RState.{RState}
+use Rattle.re_terms.specs.declared.replicated.Rows.{Rows}
 use Rattle.re_terms.specs.declared.replicated.Shape.{Shape}
+use Rattle.re_terms.specs.declared.replicated.Written.{Written}
 
 -- the content of the cell of this kind at this place
 abbrev pub content_of : RKind → ℕ → List Update → RCell
@@ -66,12 +68,20 @@ raise device n row = slice_set row device (slice_index row device + n)
 unfoldable pub without : Word → List Pair → List Pair
 without e ps = filter (λ p. not (same_word p.element e)) ps
 
+-- a counter's rows after a device's amount: the increments are raised by an amount of 0 or more, else the decrements by its magnitude
+abbrev pub rows_after : ℕ → ℤ → Rows → Rows
+rows_after device amount rows = record { plus = raise device (increment (Add amount)) rows.plus; minus = raise device (decrement (Add amount)) rows.minus }
+
+-- a register after a device's write, whose stamp is above all that it has seen
+abbrev pub written_after : ℕ → Word → Written → Written
+written_after device w r = record { stamp = r.stamp + 1; device = device; word = w }
+
 -- what an act with this dot does to a cell of this kind; an act that the kind doesn't allow does nothing
 abbrev pub act_on : RKind → Dot → Act → RCell → RCell
-act_on kind.Counter dot (Add n) (content.Counter a) = content.Counter (record { plus = raise dot.device (increment (Add n)) a.plus; minus = raise dot.device (decrement (Add n)) a.minus })
+act_on kind.Counter dot (Add n) (content.Counter a) = content.Counter (rows_after dot.device n a)
 act_on (kind.Set k) dot (Insert e) (content.Set ps) = content.Set (plain (ascending (record { element = e; dot = dot } ∷ without e ps.items)))
 act_on (kind.Set k) dot (Remove e) (content.Set ps) = content.Set (plain (without e ps.items))
-act_on (kind.Register k start) dot (Write w) (content.Register r) = content.Register (record { stamp = r.stamp + 1; device = dot.device; word = w })
+act_on (kind.Register k start) dot (Write w) (content.Register r) = content.Register (written_after dot.device w r)
 act_on k dot act c = c
 
 -- what is done to the cell at a place
