@@ -1,3 +1,4 @@
+pub mod Admitting
 pub mod Capitals
 pub mod Resolving
 pub mod Scopes

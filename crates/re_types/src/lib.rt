@@ -1,6 +1,7 @@
-//! Resolves the names of a program, and holds it to the kind rules.
+//! Resolves the names of programs and turns, and holds them to the kind rules.
 #![tactic(auto)]
 
+mod admitting;
 mod bodies;
 mod exprs;
 mod fault;
@@ -14,5 +15,6 @@ mod sort;
 #[cfg(test)]
 mod tests;
 
-pub use fault::TypeFault;
+pub use admitting::admit;
+pub use fault::{AdmitFault, TypeFault};
 pub use resolving::resolve;
