@@ -1,0 +1,3 @@
+pub mod Commanding
+pub mod Faults
+pub mod LineGrammar
