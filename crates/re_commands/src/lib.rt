@@ -3,6 +3,11 @@
 
 mod commanding;
 mod fault;
+mod leaves;
+mod lines;
+mod names;
+mod parts;
+mod raw_line;
 mod words;
 
 pub use commanding::command;
