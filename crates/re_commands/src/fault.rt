@@ -1,4 +1,7 @@
 //! Why a line is no command.
+ghost use Rattle.std.specs.Prelude.{◌≡◌};
+ghost use Rattle.re_commands.specs.Faults.{fault_rank, first_fault};
+
 use re_tokens::LexFault;
 use re_types::AdmitFault;
 use std::alloc::AllocError;
@@ -29,6 +32,34 @@ pub enum CommandFault {
     /// The turn has over 64 parts.
     #[error("the turn has over 64 parts")]
     TooMany,
+}
+
+impl CommandFault {
+    /// Its place in the order of the faults.
+    fn rank(self) -> u8
+        ensures { result ≡ fault_rank self }
+    {
+        match self {
+            CommandFault::Memory => 0,
+            CommandFault::Syntax => 1,
+            CommandFault::Unknown => 2,
+            CommandFault::Kind => 3,
+            CommandFault::Twice => 4,
+            CommandFault::Empty => 5,
+            CommandFault::TooMany => 6,
+        }
+    }
+
+    /// The first of two faults in their order; want of memory is before all others.
+    pub(crate) fn first(self, other: CommandFault) -> CommandFault
+        ensures { result ≡ first_fault self other }
+    {
+        if self.rank() <= other.rank() {
+            self
+        } else {
+            other
+        }
+    }
 }
 
 impl From<AllocError> for CommandFault {

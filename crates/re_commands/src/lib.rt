@@ -5,6 +5,7 @@ mod commanding;
 mod fault;
 mod leaves;
 mod lines;
+mod meaning;
 mod names;
 mod parts;
 mod raw_line;

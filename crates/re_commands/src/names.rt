@@ -55,7 +55,7 @@ fn is_shown(body: &Body) -> bool
 }
 
 /// The number of the device with this name.
-pub fn device(p: &Program, name: &Text) -> Result<u8, CommandFault>
+pub fn device_of(p: &Program, name: &Text) -> Result<u8, CommandFault>
     requires { IsProgram p.now }
     ensures answer { result ≡ device_of p.now.decls.items name.now }
     ensures within { IfOk result (λ device. device < device_count p.now.decls.items) }
@@ -71,7 +71,7 @@ pub fn device(p: &Program, name: &Text) -> Result<u8, CommandFault>
 }
 
 /// The id of what has this name and a `get` may ask for.
-pub fn shown(p: &Program, name: &Text) -> Result<u16, CommandFault>
+pub fn shown_of(p: &Program, name: &Text) -> Result<u16, CommandFault>
     requires { IsProgram p.now }
     ensures answer { result ≡ shown_of p.now.decls.items name.now }
     ensures shown { IfOk result (λ id. is_shown_at p.now.decls.items id ≡ true) }

@@ -2,7 +2,7 @@ use Rattle.std.proofs.Common.{ℕ, ◌≡◌, ◌<◌, List, subst, sym, ap, ◌
 use Rattle.re_terms.specs.Admission.{device_count}
 use Rattle.re_terms.specs.declared.program.Decl.{Decl}
 use Rattle.re_commands.proofs.Devices.{number_below}
-use Rattle.re_commands.proofs.names.device.Goals as goal
+use Rattle.re_commands.proofs.names.device_of.Goals as goal
 
 pub returns-clause-within : goal.returns-clause-within
 returns-clause-within c =
