@@ -1,0 +1,15 @@
+//! Reads the lines of a session.
+#![tactic(auto)]
+
+mod commanding;
+mod fault;
+mod leaves;
+mod lines;
+mod meaning;
+mod names;
+mod parts;
+mod raw_line;
+mod words;
+
+pub use commanding::command;
+pub use fault::CommandFault;
