@@ -6,6 +6,8 @@ ghost use Rattle.re_terms.specs.Dependencies.{graph_of};
 ghost use Rattle.re_terms.specs.Listed.{plain};
 ghost use Rattle.re_terms.specs.Programs.{IsProgram};
 ghost use Rattle.re_terms.specs.Propagation.{changes, signal_changes, step_in};
+ghost use Rattle.re_terms.specs.SignalWords.{signal_word};
+ghost use Rattle.re_terms.specs.Views.{view_of};
 ghost use Rattle.re_terms.specs.Worlds.{is_full};
 ghost use Rattle.re_prop.specs.Caching.{put_at};
 ghost use Rattle.re_device.specs.Device.{started, after_turn};
@@ -14,8 +16,9 @@ use crate::fault::{DeviceFault, Done};
 use crate::places::Places;
 use re_eval::Steps;
 use re_graph::Graph;
+use re_prop::view::{NO_WORD, word_at, word_in};
 use re_prop::{Cache, Prepared, propagate};
-use re_terms::{Admitted, Entry, Logged, Program, Put, Seq, State, Word};
+use re_terms::{Admitted, Body, Entry, Logged, Program, Put, Seq, State, Word};
 use std::alloc::{AllocError, Global};
 use std::marker::Model;
 use std::sync::ledger::Ledger;
@@ -130,6 +133,52 @@ impl Device {
             number: self.number,
             evaluated: prepared.evaluated,
         })
+    }
+
+    /// The word of a var, fold, signal, counter or register, and 0 for any other id. It takes no memory.
+    pub fn word(&self, id: u16) -> Word
+        ensures { result ≡ signal_word self.now.program self.now.state.words.items (view_of self.now.state.rep) id }
+    {
+        let Some(decl) = self.program.decls.get(id as usize) else {
+            return NO_WORD;
+        };
+        match decl.body {
+            Body::Var { .. } | Body::Fold { .. } => {
+                word_in(self.state.words.as_slice(), self.places.word(id))
+            }
+            Body::Counter | Body::Register { .. } => {
+                word_at(self.state.rep.cells.as_slice(), self.places.replicated(id))
+            }
+            Body::Signal { .. } => self.cache.word(id),
+            _ => NO_WORD,
+        }
+    }
+
+    /// The number of its last entry, and 0 before any.
+    pub fn number(&self) -> u64
+        ensures { result ≡ self.now.number }
+    {
+        self.number
+    }
+
+    /// The entries that it took since it was started, in order.
+    pub fn entries(&self) -> &Seq<Logged>
+        ensures { result.now.items ≡ self.now.entries }
+    {
+        &self.entries
+    }
+
+    pub fn program(&self) -> &Program
+        ensures { result.now ≡ self.now.program }
+    {
+        &self.program
+    }
+
+    /// The dependency graph of its program.
+    pub fn graph(&self) -> &Graph
+        ensures { result.now ≡ graph_of self.now.program.decls.items }
+    {
+        &self.graph
     }
 
     /// What an entry that leaves the replicated cells changes. The one refusal is want of memory.

@@ -1,5 +1,5 @@
 //! Where the states of a program's cells stand.
-ghost use Rattle.std.specs.Prelude.{◌≡◌, IfOk};
+ghost use Rattle.std.specs.Prelude.{◌≡◌, ◌<◌, length, slice_index, IfOk};
 ghost use Rattle.re_terms.specs.Programs.{IsProgram, is_replicated_body};
 ghost use Rattle.re_terms.specs.Signal.{is_cell_body};
 ghost use Rattle.re_device.specs.Placing.{places_of};
@@ -46,5 +46,21 @@ impl Places {
             replicated_count += u16::from(is_replicated(&decl.body));
         }
         Ok(Places { words, replicated })
+    }
+
+    /// The place of a var's or a fold's word in a state.
+    pub fn word(&self, id: u16) -> usize
+        requires { id < length self.now.words.items }
+        ensures { result ≡ slice_index self.now.words.items id }
+    {
+        self.words.as_slice()[id as usize] as usize
+    }
+
+    /// The place of a replicated cell in a state.
+    pub fn replicated(&self, id: u16) -> usize
+        requires { id < length self.now.replicated.items }
+        ensures { result ≡ slice_index self.now.replicated.items id }
+    {
+        self.replicated.as_slice()[id as usize] as usize
     }
 }
