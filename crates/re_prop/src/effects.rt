@@ -2,7 +2,7 @@
 ghost use Rattle.std.specs.Prelude.{◌≡◌, [], ◌∷◌, ◌++◌, slice_index_or, OnOk, None};
 ghost use Rattle.re_terms.specs.SignalWords.{no_word};
 
-use crate::view::NO_WORD;
+use crate::view::{NO_WORD, word_in};
 use re_terms::Word;
 use std::alloc::{AllocError, Global};
 
@@ -60,7 +60,7 @@ impl Effects {
     pub fn word(&self, id: u16) -> Word
         ensures { result ≡ slice_index_or self.now.words.items id no_word }
     {
-        self.words.get(id as usize).copied().unwrap_or(NO_WORD)
+        word_in(&self.words, id as usize)
     }
 
     /// The value of an event that occurs.

@@ -4,7 +4,7 @@ ghost use Rattle.re_terms.specs.SignalWords.{no_word, replicated_place as place_
 ghost use Rattle.re_terms.specs.Views.{cell_size, cell_has};
 
 use crate::bodies::replicated_place;
-use crate::view::{NO_WORD, has_at};
+use crate::view::{has_at, word_in};
 use re_eval::Env;
 use re_terms::{Decl, RCell, Word};
 
@@ -26,7 +26,7 @@ impl<'a> Env for Names<'a> {
     } };
 
     fn word(&self, id: u16) -> Word {
-        self.words.get(id as usize).copied().unwrap_or(NO_WORD)
+        word_in(self.words, id as usize)
     }
 
     fn size(&self, id: u16) -> u32 {

@@ -1,7 +1,8 @@
 //! What is read of replicated cells.
-ghost use Rattle.std.specs.Prelude.{◌≡◌, ◌*◌, ◌≤◌, ◌^◌, length, pos, sum, slice_get};
+ghost use Rattle.std.specs.Prelude.{◌≡◌, ◌*◌, ◌≤◌, ◌^◌, length, pos, sum, slice_get, slice_index_or};
 ghost use Rattle.std.specs.List.{list_any};
 ghost use Rattle.re_terms.specs.Arithmetic.{whole as whole_word};
+ghost use Rattle.re_terms.specs.SignalWords.{no_word};
 ghost use Rattle.re_terms.specs.Views.{total as total_word, cell_word, cell_has};
 ghost use Rattle.re_terms.specs.WordOrder.{same_word};
 
@@ -9,6 +10,13 @@ use re_terms::{Pair, RCell, Rows, Word};
 
 /// The word of what has none.
 pub const NO_WORD: Word = Word::Int(0);
+
+/// The word at a place, and 0 past the end.
+pub fn word_in(words: &[Word], place: usize) -> Word
+    ensures { result ≡ slice_index_or words.now place no_word }
+{
+    words.get(place).copied().unwrap_or(NO_WORD)
+}
 
 /// Two words are the same word, a fault's code included.
 #[tactic(auto, unfolding(re_terms::specs::WordOrder::same_word))]

@@ -1,8 +1,9 @@
 //! What each form of declaration has behind an entry.
-ghost use Rattle.std.specs.Prelude.{◌≡◌, ◌+◌, ◌≤◌, ◌<◌, true, map, Some, None, is_some, option_map, option_and_then, slice_get, slice_index_or};
+ghost use Rattle.std.specs.Prelude.{◌≡◌, ◌+◌, ◌≤◌, ◌<◌, true, false, map, Some, None, is_some, option_map, option_and_then, slice_get, slice_index_or};
 ghost use Rattle.std.specs.Option.{option_map_or};
 ghost use Rattle.re_terms.specs.Meaning.{meaning};
 ghost use Rattle.re_terms.specs.Propagation.{put_word as word_that_is_put, change_of, filtered as filtered_by, body_effect, sets_of, fires_of, step_in};
+ghost use Rattle.re_terms.specs.Signal.{is_cell_body, cell_place};
 ghost use Rattle.re_terms.specs.SignalWords.{names_environment, no_word, signal_word};
 ghost use Rattle.re_terms.specs.Views.{cell_size, view_of};
 ghost use Rattle.re_eval.specs.Given.{is_given};
@@ -12,7 +13,7 @@ ghost use Rattle.re_prop.specs.Evaluated.{is_given_body};
 use crate::bodies::replicated_place;
 use crate::effects::{Effect, Effects};
 use crate::names::Names;
-use crate::view::{NO_WORD, is_same, word_at};
+use crate::view::{NO_WORD, is_same, word_at, word_in};
 use re_eval::{Steps, eval};
 use re_terms::{Body, Decl, Entry, Expr, Program, Put, RState, State, Word};
 use std::sync::ledger::Ledger;
@@ -86,10 +87,20 @@ pub struct Walk<'a> {
 
 impl<'a> Walk<'a> {
     /// The word of a declaration before the entry.
+    #[tactic(auto, using(crate::proofs::Before::word_before_at))]
     fn old(&self, id: usize) -> Word
         ensures { result ≡ signal_word self.now.program.now self.now.state.now.words.items (view_of self.now.state.now.rep) id }
     {
-        self.before.get(id).copied().unwrap_or(NO_WORD)
+        word_in(self.before, id)
+    }
+
+    /// The word of a var or fold before the entry.
+    fn kept(&self, id: usize, decl: &Decl) -> Word
+        requires at { slice_get self.now.program.now.decls.items id ≡ Some decl.now }
+        requires cell { is_cell_body decl.now.body ≡ true }
+        ensures { result ≡ slice_index_or self.now.state.now.words.items (cell_place self.now.program.now.decls.items id) no_word }
+    {
+        self.old(id)
     }
 
     /// The word of an expression over the words so far.
@@ -210,13 +221,13 @@ impl<'a> Walk<'a> {
         ensures most { evaluated.new ≤ evaluated.old + 1 }
     {
         match &decl.body {
-            Body::Var { .. } => put_word(sets(self.entry), id).unwrap_or(self.old(id)),
+            Body::Var { .. } => put_word(sets(self.entry), id).unwrap_or(self.kept(id, decl)),
             Body::Signal { expr, .. } => {
                 self.evaluate(expr, effects, None, None, steps, evaluated)
             }
             Body::Fold { source, expr, .. } => {
                 let value = effects.value(*source);
-                self.stepped(expr, effects, value, self.old(id), steps, evaluated)
+                self.stepped(expr, effects, value, self.kept(id, decl), steps, evaluated)
             }
             Body::Counter | Body::Register { .. } => {
                 let place = replicated_place(self.program.decls.as_slice(), id);
