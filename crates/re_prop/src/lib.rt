@@ -1,9 +1,14 @@
 //! What one entry changes along the declarations of a program, and the words of signals that are kept.
 #![tactic(auto)]
 
+mod bodies;
 mod cache;
+mod effects;
+mod names;
 mod prepared;
 mod propagation;
+mod view;
+mod walk;
 
 pub use cache::Cache;
 pub use prepared::Prepared;

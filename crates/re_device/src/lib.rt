@@ -1,0 +1,9 @@
+//! One device of a program.
+#![tactic(auto)]
+
+mod device;
+mod fault;
+mod places;
+
+pub use device::Device;
+pub use fault::{DeviceFault, Done};

@@ -1,0 +1,62 @@
+-- The words before an entry, by their places.
+use Rattle.std.proofs.Common.{◌≡◌, ◌<◌, ◌≤◌, ◌+◌, ℕ, Bool, true, false, List, length, get_or, refl, sym, ap, ◌∙◌, arith}
+use Rattle.std.specs.Prelude.{Some, nat_lt, slice_get, slice_index_or}
+use Rattle.std.specs.Option.{option_map_or}
+use Rattle.std.proofs.lemmas.Bool.{ltb-true, ltb-false}
+use Rattle.std.proofs.lemmas.List.{get_or_past}
+use Rattle.std.proofs.lemmas.Option.{slice_get_within}
+use Rattle.std.proofs.lemmas.List.FromFn.{length-map-range_with_len, get_or-map-range_with_len}
+use Rattle.re_terms.specs.declared.word.Word.{Word}
+use Rattle.re_terms.specs.declared.entry.State.{State}
+use Rattle.re_terms.specs.declared.program.Body.{Body}
+use Rattle.re_terms.specs.declared.program.Body.TheVariants as body
+use Rattle.re_terms.specs.declared.program.Decl.{Decl}
+use Rattle.re_terms.specs.declared.program.Program.{Program}
+use Rattle.re_terms.specs.Dependencies.{below}
+use Rattle.re_terms.specs.Signal.{is_cell_body, cell_place}
+use Rattle.re_terms.specs.SignalWords.{no_word, body_word, place_word, signal_word}
+use Rattle.re_terms.specs.Views.{View, view_of}
+use Rattle.re_graph.proofs.Own.{below-none, below-own}
+use Rattle.re_prop.specs.Effects.{words_before}
+
+never : false ≡ true → ⊥
+never e = cc
+
+-- no word stands behind the list
+pub signal_word-none : (p : Program) (cells : List Word) (view : View) (id : ℕ) → length p.decls.items ≤ id → signal_word p cells view id ≡ no_word
+signal_word-none p cells view id behind = below-none no_word (place_word p.decls.items cells view) (length p.decls.items) id behind
+
+at_by : (p : Program) (s : State) (id : ℕ) (b : Bool) → nat_lt id (length p.decls.items) ≡ b → slice_index_or (words_before p s) id no_word ≡ signal_word p s.words.items (view_of s.rep) id
+at_by p s id true is = get_or-map-range_with_len (signal_word p s.words.items (view_of s.rep)) 0 (length p.decls.items) id id no_word (ltb-true id (length p.decls.items) is) (omega arith)
+at_by p s id false is =
+    let behind : length p.decls.items ≤ id = ltb-false id (length p.decls.items) is in
+    get_or_past (words_before p s) id no_word (omega (arith, behind, length-map-range_with_len (signal_word p s.words.items (view_of s.rep)) 0 (length p.decls.items)))
+    ∙ sym (signal_word-none p s.words.items (view_of s.rep) id behind)
+
+pub word_before_at : (p : Program) (s : State) (words : List Word) (id : ℕ) → words ≡ words_before p s → slice_index_or words id no_word ≡ signal_word p s.words.items (view_of s.rep) id
+word_before_at p s words id is = ap (λ ws. slice_index_or ws id no_word) is ∙ at_by p s id (nat_lt id (length p.decls.items)) refl
+
+-- what the word of a declaration is made of
+pub signal_word-own : (p : Program) (cells : List Word) (view : View) (id : ℕ) (d : Decl) → slice_get p.decls.items id ≡ Some d → signal_word p cells view id ≡ body_word p.decls.items cells view id d.body (below no_word (place_word p.decls.items cells view) id)
+signal_word-own p cells view id d at =
+    below-own no_word (place_word p.decls.items cells view) (length p.decls.items) id (slice_get_within p.decls.items id d at)
+    ∙ ap (λ found. option_map_or (λ found. body_word p.decls.items cells view id found.body (below no_word (place_word p.decls.items cells view) id)) found no_word) at
+
+cell_body : (decls : List Decl) (cells : List Word) (view : View) (id : ℕ) (b : Body) (words : ℕ → Word) → is_cell_body b ≡ true → body_word decls cells view id b words ≡ slice_index_or cells (cell_place decls id) no_word
+cell_body decls cells view id (body.Var kind start region) words h = refl
+cell_body decls cells view id (body.Fold kind start source expr region) words h = refl
+cell_body decls cells view id body.Device words h = absurd (never h)
+cell_body decls cells view id body.Symbol words h = absurd (never h)
+cell_body decls cells view id (body.Event kind) words h = absurd (never h)
+cell_body decls cells view id (body.Signal kind expr) words h = absurd (never h)
+cell_body decls cells view id (body.Changed of) words h = absurd (never h)
+cell_body decls cells view id (body.Map source kind expr) words h = absurd (never h)
+cell_body decls cells view id (body.Filter source expr) words h = absurd (never h)
+cell_body decls cells view id (body.Either left right) words h = absurd (never h)
+cell_body decls cells view id body.Counter words h = absurd (never h)
+cell_body decls cells view id (body.Set kind) words h = absurd (never h)
+cell_body decls cells view id (body.Register kind start) words h = absurd (never h)
+
+-- a var or a fold has the word that is kept for it
+pub kept_word : (p : Program) (cells : List Word) (view : View) (id : ℕ) (d : Decl) → slice_get p.decls.items id ≡ Some d → is_cell_body d.body ≡ true → signal_word p cells view id ≡ slice_index_or cells (cell_place p.decls.items id) no_word
+kept_word p cells view id d at cell = signal_word-own p cells view id d at ∙ cell_body p.decls.items cells view id d.body (below no_word (place_word p.decls.items cells view) id) cell
