@@ -11,7 +11,7 @@ use Rattle.re_terms.specs.declared.entry.Put.{Put}
 use Rattle.re_terms.specs.declared.program.Decl.{Decl}
 use Rattle.re_terms.specs.declared.program.Program.{Program}
 use Rattle.re_terms.specs.Propagation.{Step, effect, differing, changes, signal_changes, is_cell_at, is_signal_at}
-use Rattle.re_terms.specs.Signal.{is_cell, cell_place}
+use Rattle.re_terms.specs.Cells.{is_cell, cell_place}
 use Rattle.re_terms.specs.SignalWords.{signal_word}
 use Rattle.re_terms.specs.WordOrder.{same_word}
 use Rattle.re_terms.proofs.States.{cell_place-within}

@@ -6,7 +6,7 @@ ghost use Rattle.re_terms.specs.Listed.{plain};
 ghost use Rattle.re_terms.specs.Programs.{IsProgram};
 ghost use Rattle.re_terms.specs.Propagation.{step_in, changes as changes_of, signal_changes};
 ghost use Rattle.re_terms.specs.Shapes.{FitsShape, shape_of};
-ghost use Rattle.re_terms.specs.Signal.{is_cell};
+ghost use Rattle.re_terms.specs.Cells.{is_cell};
 ghost use Rattle.re_terms.specs.Views.{view_of};
 ghost use Rattle.re_prop.specs.Caching.{signal_words};
 ghost use Rattle.re_prop.specs.Reading.{words_read};

@@ -3,7 +3,7 @@ ghost use Rattle.std.specs.Prelude.{◌≡◌, ◌+◌, ◌≤◌, ◌<◌, true
 ghost use Rattle.std.specs.Option.{option_map_or};
 ghost use Rattle.re_terms.specs.Meaning.{meaning};
 ghost use Rattle.re_terms.specs.Propagation.{put_word as word_that_is_put, change_of, filtered as filtered_by, body_effect, sets_of, fires_of, step_in};
-ghost use Rattle.re_terms.specs.Signal.{is_cell_body, cell_place};
+ghost use Rattle.re_terms.specs.Cells.{is_cell_body, cell_place};
 ghost use Rattle.re_terms.specs.SignalWords.{names_environment, no_word, signal_word};
 ghost use Rattle.re_terms.specs.Views.{cell_size, view_of};
 ghost use Rattle.re_eval.specs.Given.{is_given};

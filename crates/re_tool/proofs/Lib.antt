@@ -15,3 +15,4 @@ pub mod Starting
 pub mod Settling
 pub mod Devices
 pub mod Histories
+pub mod Lines

@@ -1,0 +1,53 @@
+//! What follows from the definitions of the answers, for every program and every session.
+ghost use Rattle.std.specs.Prelude.{◌≡◌, ℕ, List, [], ◌∷◌, ◌++◌, ◌≢◌, ◌↔◌, slice_get, Ok, Some, None};
+ghost use Rattle.re_terms.specs.declared.expr.Expr.{Expr};
+ghost use Rattle.re_terms.specs.declared.program.Decl.{Decl};
+ghost use Rattle.re_terms.specs.declared.program.Program.{Program};
+ghost use Rattle.re_terms.specs.declared.word.Kind.{Kind};
+ghost use Rattle.re_terms.specs.declared.word.Word.{Word};
+ghost use Rattle.re_terms.specs.Meaning.{meaning};
+ghost use Rattle.re_terms.specs.Programs.{IsProgram};
+ghost use Rattle.re_terms.specs.Runs.{start_view};
+ghost use Rattle.re_terms.specs.SignalWords.{names_environment, signal_word};
+ghost use Rattle.re_terms.specs.Worlds.{World, Outcome, Fine, Memory, Refused, start_world, world_state};
+ghost use Rattle.re_commands.specs.Commanding.{commanded};
+ghost use Rattle.re_print.specs.Canonical.{word_text};
+ghost use Rattle.re_tool.specs.Answers.{line_answer, line_text, lines_after, fault_code};
+ghost use Rattle.re_tool.specs.Histories.{last_set, taken};
+
+use re_commands::CommandFault;
+use re_terms::{Body, Command};
+
+/// The entries that the device took are the turns that were answered with their numbers, in order.
+pub fn turn_law()
+    ensures { (p : Program) (lines : List (List ℕ)) (os : List Outcome) →
+        (lines_after p (start_world p) lines os).settled ≡ taken p (start_world p) lines os }
+{}
+
+/// A get of a var says the word that the last turn that was taken set it to, and its start word where none did.
+pub fn var_law()
+    ensures { (p : Program) (lines : List (List ℕ)) (os : List Outcome) (line : List ℕ) (device id : ℕ) (d : Decl)
+        (kind : Kind) (start : Word) (region : ℕ) → IsProgram p →
+        commanded p line ≡ Ok (Some (Command.Get device id)) → slice_get p.decls.items id ≡ Some d → d.body ≡ Body.Var kind start region →
+        line_text p (lines_after p (start_world p) lines os) (commanded p line) Fine
+        ≡ word_text p (last_set (taken p (start_world p) lines os) id start) ++ 10 ∷ [] }
+{}
+
+/// A get of a signal says the word of its expression over the words that gets of its names would say.
+pub fn signal_law()
+    ensures { (p : Program) (w : World) (line : List ℕ) (device id : ℕ) (d : Decl) (kind : Kind) (expr : Expr) → IsProgram p →
+        commanded p line ≡ Ok (Some (Command.Get device id)) → slice_get p.decls.items id ≡ Some d → d.body ≡ Body.Signal kind expr →
+        line_text p w (commanded p line) Fine
+        ≡ word_text p (meaning expr (names_environment p.decls.items (start_view p) (signal_word p (world_state p w).words (start_view p)) None None)) ++ 10 ∷ [] }
+{}
+
+/// Want of memory aside, the codes 20 to 25 are said of the lines with these faults, and of no others. No answer is given
+/// to lines without a command, and to no others; and where memory ran out, the code 36 is said of each line that has one.
+pub fn refusal_law()
+    ensures no_command { (p : Program) (w : World) (line : List ℕ) (o : Outcome) (f : CommandFault) → f ≢ CommandFault.Memory →
+        (line_answer p w (commanded p line) o ≡ Some (Refused (fault_code f))) ↔ ((commanded p line ≡ Err f) × (o ≡ Fine)) }
+    ensures no_answer { (p : Program) (w : World) (line : List ℕ) (o : Outcome) →
+        (line_answer p w (commanded p line) o ≡ None) ↔ (commanded p line ≡ Ok None) }
+    ensures memory { (p : Program) (w : World) (line : List ℕ) (o : Outcome) →
+        (line_answer p w (commanded p line) o ≡ Some (Refused 36)) ↔ ((o ≡ Memory) × (commanded p line ≢ Ok None)) }
+{}
