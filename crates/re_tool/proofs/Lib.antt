@@ -16,3 +16,4 @@ pub mod Settling
 pub mod Devices
 pub mod Histories
 pub mod Lines
+pub mod Meanings
