@@ -3,7 +3,6 @@
 
 mod device;
 mod fault;
-mod places;
 
 pub use device::Device;
 pub use fault::{DeviceFault, Done};

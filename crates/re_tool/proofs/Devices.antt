@@ -1,9 +1,10 @@
 -- The device after a command, as the world's.
-use Rattle.std.proofs.Common.{ℕ, zero, suc, ◌≡◌, ◌+◌, Bool, true, false, List, [], ◌∷◌, ◌++◌, length, length-append, Option, Some, None, refl, sym, ap, subst, ◌∙◌, arith, add-zero}
+use Rattle.std.proofs.Common.{ℕ, ◌≡◌, ◌+◌, cond, Bool, true, false, List, [], ◌∷◌, ◌++◌, length, length-append, Option, Some, None, refl, sym, ap, subst, ◌∙◌, arith, add-zero}
 use Rattle.std.specs.Prelude.{slice_get, if◌then◌else◌, count_by}
 use Rattle.std.specs.List.{list_all, filter_map}
 use Rattle.std.specs.Option.{option_map_or}
 use Rattle.std.proofs.lemmas.Bool.{and_parts, eqb-true}
+use Rattle.std.proofs.lemmas.List.Sums.{sum_by-cons}
 use Rattle.re_terms.specs.declared.command.Command.{Command}
 use Rattle.re_terms.specs.declared.command.Command.TheVariants as command
 use Rattle.re_terms.specs.declared.entry.Admitted.{Admitted}
@@ -15,8 +16,7 @@ use Rattle.re_terms.specs.declared.program.Program.{Program}
 use Rattle.re_terms.specs.declared.replicated.RepOp.{RepOp}
 use Rattle.re_terms.specs.declared.replicated.RKind.{RKind}
 use Rattle.re_terms.specs.declared.word.Word.{Word}
-use Rattle.re_terms.specs.Admission.{IsAdmitted, is_operation_of, is_act_of, symbol_count, is_shown_body, is_shown_at}
-use Rattle.re_prop.specs.Reading.{is_valued_body, is_valued_at}
+use Rattle.re_terms.specs.Admission.{IsAdmitted, is_operation_of, is_act_of, symbol_count}
 use Rattle.re_terms.specs.Programs.{is_device, is_replicated, is_replicated_body}
 use Rattle.re_terms.specs.Propagation.{Step, words_after}
 use Rattle.re_terms.specs.Runs.{PlainState, PlainEntry, Turn, plain_start, entry_after, run_entries, start_view, step_of}
@@ -53,15 +53,21 @@ no_kind body.Counter h = absurd (cc)
 no_kind (body.Set kind) h = absurd (cc)
 no_kind (body.Register kind start) h = absurd (cc)
 
-first_none : (b : Bool) (n : ℕ) → (if b then 1 else 0) + n ≡ 0 → (b ≡ false) × (n ≡ 0)
+first_none : (b : Bool) (n : ℕ) → cond b 1 0 + n ≡ 0 → (b ≡ false) × (n ≡ 0)
 first_none true n h = absurd (omega (arith, h))
 first_none false n h = (refl, omega (arith, h))
+
+one_more : (d : Decl) (decls : List Decl) → count_by is_replicated (d ∷ decls) ≡ cond (is_replicated d) 1 0 + count_by is_replicated decls
+one_more d decls = sum_by-cons (λ x. cond (is_replicated x) 1 0) d decls
 
 no_kinds : (decls : List Decl) → count_by is_replicated decls ≡ 0 → replicated_kinds decls ≡ []
 no_kinds [] h = refl
 no_kinds (d ∷ decls) h =
-    let both = first_none (is_replicated d) (count_by is_replicated decls) h in
-    rw (no_kind d.body both.0) (no_kinds decls both.1)
+    let both = first_none (is_replicated d) (count_by is_replicated decls) (sym (one_more d decls) ∙ h) in
+    kinds_more d decls (no_kind d.body both.0) ∙ no_kinds decls both.1
+  where
+    kinds_more : (d : Decl) (decls : List Decl) → replicated_kind d.body ≡ None → replicated_kinds (d ∷ decls) ≡ replicated_kinds decls
+    kinds_more d decls none = rw none refl
 
 no_operation : (decls : List Decl) (ops : List RepOp) → replicated_kinds decls ≡ [] → list_all (is_operation_of decls) ops ≡ true → ops ≡ []
 no_operation decls [] none h = refl
@@ -122,33 +128,3 @@ got d device id word e = record {
   answers = λ p w is. ap Value (e ∙ ap (λ q. signal_word q d.state.words.items (view_of d.state.rep) id) is.program ∙ ap (λ ws. signal_word p ws (view_of d.state.rep) id) is.words ∙ ap (λ r. signal_word p (world_state p w).words (view_of r) id) is.rep);
   world = λ p w is. is;
 }
-
--- ---- what can be shown
-
-none_first : (decls : List Decl) (id : ℕ) (d : Decl) → count_by is_replicated decls ≡ 0 → slice_get decls id ≡ Some d → is_replicated d ≡ false
-none_first [] id d h e = absurd (cc)
-none_first (x ∷ decls) zero d h e = let same : x ≡ d = cc in ap is_replicated (sym same) ∙ (first_none (is_replicated x) (count_by is_replicated decls) h).0
-none_first (x ∷ decls) (suc id) d h e = none_first decls id d (first_none (is_replicated x) (count_by is_replicated decls) h).1 e
-
-shown_body : (b : Body) → is_replicated_body b ≡ false → is_shown_body b ≡ true → is_valued_body b ≡ true
-shown_body body.Device h s = absurd (cc)
-shown_body body.Symbol h s = absurd (cc)
-shown_body (body.Var kind start region) h s = refl
-shown_body (body.Event kind) h s = absurd (cc)
-shown_body (body.Signal kind expr) h s = refl
-shown_body (body.Changed of) h s = absurd (cc)
-shown_body (body.Map source kind expr) h s = absurd (cc)
-shown_body (body.Filter source expr) h s = absurd (cc)
-shown_body (body.Either left right) h s = absurd (cc)
-shown_body (body.Fold kind start source expr region) h s = refl
-shown_body body.Counter h s = absurd (cc)
-shown_body (body.Set kind) h s = absurd (cc)
-shown_body (body.Register kind start) h s = absurd (cc)
-
-shown_found : (decls : List Decl) (id : ℕ) (o : Option Decl) → count_by is_replicated decls ≡ 0 → slice_get decls id ≡ o → option_map_or (λ d. is_shown_body d.body) o false ≡ true → option_map_or (λ d. is_valued_body d.body) o false ≡ true
-shown_found decls id None h e s = absurd (cc)
-shown_found decls id (Some d) h e s = shown_body d.body (none_first decls id d h e) s
-
--- what can be shown has a word, in a program that can be run so far
-pub shown_valued : (p : Program) (id : ℕ) → is_built p ≡ true → is_shown_at p.decls.items id ≡ true → is_valued_at p.decls.items id ≡ true
-shown_valued p id built s = shown_found p.decls.items id (slice_get p.decls.items id) (built_none p built) refl s

@@ -16,7 +16,7 @@ use Rattle.re_tool.specs.declared.status.Status.TheVariants as status
 use Rattle.re_tool.specs.Acts.{Ordered, OrderedIn}
 use Rattle.re_tool.specs.Answers.{Outcomes, Session, texts, lines_after, session_of, session_in, answers, done, close, status_line, status_in, ending, session_text, first_lines}
 use Rattle.re_tool.specs.Clipped.{Clipped}
-use Rattle.re_tool.specs.Device.{DeviceState}
+use Rattle.re_device.specs.Device.{DeviceState}
 use Rattle.re_tool.specs.Lines.{split, ended, without_return}
 use Rattle.re_tool.specs.Part.{Part, part_of, last_lines}
 use Rattle.re_tool.specs.Reads.{Reads, Takes, limit}

@@ -1,9 +1,9 @@
 -- What is kept of lines and of a program part decides what they are.
-use Rattle.std.proofs.Common.{arith, ◌≡◌, ◌≤◌, ◌<◌, ℕ, List, length, take, sym, ◌∙◌, ap, subst, refl, ◌⊎◌, inl, inr, length-take}
+use Rattle.std.proofs.Common.{arith, ◌≡◌, ◌≤◌, ◌<◌, ℕ, List, length, take, sym, ◌∙◌, ap, subst, refl, ◌⊎◌, inl, inr, Err, length-take}
 use Rattle.std.proofs.lemmas.Bool.{lt-ltb, cases_lt}
 use Rattle.std.proofs.lemmas.List.{take_all}
 use Rattle.re_terms.specs.declared.program.Program.{Program}
-use Rattle.re_tool.specs.declared.command.Line.TheVariants.{Bad}
+use Rattle.re_commands.specs.declared.fault.CommandFault.TheVariants as fault
 use Rattle.re_tool.specs.declared.words.Job.{Job}
 use Rattle.re_tool.specs.declared.words.Job.TheVariants as job
 use Rattle.re_commands.specs.Commanding.{commanded}
@@ -66,7 +66,7 @@ sole_kept j text (Accepted p) h = λ w k. h w (has_back j text w k)
 pub verdict-kept : (j : Job) (text : List ℕ) (v : Verdict) → Decides j (take 65537 text) v → Decides j text v
 verdict-kept j text v d = record { has = has_kept j text v d.has; only = sole_kept j text v d.only }
 
-line-long : (p : Program) (line : List ℕ) → 1024 < length line → commanded p line ≡ Bad
+line-long : (p : Program) (line : List ℕ) → 1024 < length line → commanded p line ≡ Err fault.Syntax
 line-long p line h = rw (lt-ltb 1024 (length line) h) refl
 
 line_cases : (p : Program) (line : List ℕ) → (1026 < length line) ⊎ (length line ≤ 1026) → commanded p (without_return (take 1026 line)) ≡ commanded p (without_return line)

@@ -1,11 +1,11 @@
 -- What a line in hand is, as far as it is kept.
-use Rattle.std.proofs.Common.{arith, ◌≡◌, ◌≤◌, ◌+◌, ◌∷◌, [], ℕ, List, length, take, ◌∙◌, ap, length-append}
+use Rattle.std.proofs.Common.{arith, ◌≡◌, ◌≤◌, ◌+◌, ◌∷◌, [], ℕ, List, length, take, ◌∙◌, ap, subst, length-append}
 use Rattle.re_outside.specs.Outside.{Seen, none}
 use Rattle.re_terms.specs.declared.program.Program.{Program}
 use Rattle.re_tool.specs.declared.reader.Reader.{Reader}
 use Rattle.re_tool.specs.Clipped.{Clipped, clipped}
 use Rattle.re_commands.specs.Commanding.{commanded}
-use Rattle.re_tool.specs.Device.{DeviceState}
+use Rattle.re_device.specs.Device.{DeviceState}
 use Rattle.re_tool.specs.Lines.{without_return}
 use Rattle.re_tool.specs.Reads.{Reads}
 use Rattle.re_tool.specs.Serving.{Turns, TurnBreaks}
@@ -30,7 +30,9 @@ turns_kept_last p line' most raw before after a b e m t = turns_as p _ _ before 
 pub breaks_kept_last : (p : Program) (line' : Clipped) (most : ℕ) (raw : List ℕ) (before after : DeviceState) (a b : Seen) → line' ≡ clipped most raw → most ≡ 1026 → TurnBreaks p line'.items before after a b → TurnBreaks p raw before after a b
 breaks_kept_last p line' most raw before after a b e m t = breaks_as p _ _ before after a b (last_is p line' most raw e m) t
 
--- each line takes a byte at least, so there are no more entries than bytes
-pub number_more : (a b : Seen) (r r' : Reader) (line' : Clipped) (most n n' : ℕ) → Reads r r' line' most a b (10 ∷ []) none → n + length r.chunk ≤ r.taken → n' ≤ n + 1 → n' + length r'.chunk ≤ r'.taken
-number_more a b r r' line' most n n' d h k =
-    omega (arith, d.taken, ap length d.whole, length-append r.chunk d.bytes, length-append d.line (10 ∷ r'.chunk))
+-- the same of the same program
+pub turns_of : (p q : Program) (line : List ℕ) (before after : DeviceState) (a b : Seen) → p ≡ q → Turns p line before after a b → Turns q line before after a b
+turns_of p q line before after a b e t = subst (λ r. Turns r line before after a b) e t
+
+pub breaks_of : (p q : Program) (line : List ℕ) (before after : DeviceState) (a b : Seen) → p ≡ q → TurnBreaks p line before after a b → TurnBreaks q line before after a b
+breaks_of p q line before after a b e t = subst (λ r. TurnBreaks r line before after a b) e t

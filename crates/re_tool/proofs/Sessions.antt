@@ -15,7 +15,8 @@ use Rattle.re_tool.specs.Acts.{Order, Ordered, OrderedIn}
 use Rattle.re_tool.specs.Answers.{Outcomes, Session, texts, lines_after, line_text, line_after, session_of, session_in, answers, done, close}
 use Rattle.re_tool.specs.Clipped.{Clipped}
 use Rattle.re_commands.specs.Commanding.{commanded}
-use Rattle.re_tool.specs.Device.{DeviceState, Represents}
+use Rattle.re_device.specs.Device.{DeviceState}
+use Rattle.re_tool.specs.Device.{Represents}
 use Rattle.re_tool.specs.Lines.{split, ended, IsPlain, ArePlain, without_return}
 use Rattle.re_tool.specs.Part.{Part, divided, part_of, part_in, last_lines}
 use Rattle.re_tool.specs.Reads.{Reads, limit}

@@ -17,7 +17,8 @@ use Rattle.re_tool.specs.declared.status.Status.TheVariants as status
 use Rattle.re_tool.specs.Acts.{OrderedIn}
 use Rattle.re_tool.specs.Answers.{Session, session_of, session_in, answers, close, checked_text, status_line, status_in, ending, session_text, first_lines}
 use Rattle.re_tool.specs.Clipped.{Clipped}
-use Rattle.re_tool.specs.Device.{DeviceState, Represents}
+use Rattle.re_device.specs.Device.{DeviceState}
+use Rattle.re_tool.specs.Device.{Represents}
 use Rattle.re_tool.specs.Lines.{split, ended, without_return}
 use Rattle.re_tool.specs.Part.{Part, divided, part_of, part_in}
 use Rattle.re_tool.specs.PartReading.{Divides, ReadsAll, PartFails, PartTooLong, PartStops, PartIs}

@@ -1,10 +1,12 @@
-use Rattle.std.proofs.Common.{◌∙◌, ap}
+use Rattle.std.proofs.Common.{◌≡◌, ◌∙◌, true, refl, sym, ap, subst}
+use Rattle.re_terms.specs.Programs.{IsProgram}
+use Rattle.re_tool.specs.Built.{is_built}
 use Rattle.re_outside.specs.Outside.{Seen}
 use Rattle.re_tool.specs.Clipped.{Clipped}
 use Rattle.re_tool.specs.Serving.{Starts}
 use Rattle.re_tool.proofs.Sessions.{starts_so_far, ready_line, ready_end, so_far_more}
 use Rattle.re_tool.proofs.Endings.{near_failed, near_too_long, near_halted, near_memory, runs_output, runs_done, near_finish}
-use Rattle.re_tool.proofs.Serves.{turns_kept, breaks_kept, turns_kept_last, breaks_kept_last, number_more}
+use Rattle.re_tool.proofs.Serves.{turns_kept, breaks_kept, turns_kept_last, breaks_kept_last, turns_of, breaks_of}
 use Rattle.re_tool.proofs.Parts.{line_smaller}
 use Rattle.re_tool.proofs.running.serve.Goals as goal
 use Rattle.re_tool.proofs.running.serve.Goals.{in-Ok-turn, in-Err-Memory-turn-2, in-Err-Output-turn}
@@ -12,9 +14,10 @@ use Rattle.re_tool.proofs.running.serve.Goals.{in-Ok-turn, in-Err-Memory-turn-2,
 pub lines-init : goal.lines-init
 lines-init g c = record {
   so_far = λ start h. starts_so_far start _ _ _ _ h;
-  fits = c.requires.fits;
+  program = refl;
+  is_program = c.requires.program;
+  built = c.requires.built;
   few = c.requires.few;
-  number = c.requires.number;
   most = ap (λ (l : Clipped). l.most) c.new-line.ensures;
 }
 
@@ -43,10 +46,11 @@ lines-preserved g c =
     let e = rw c.in-Ok-Line.field-0-is at c.in-Ok-Line.ensures in
     let t = rw (c.trim_return.ensures, c.bytes.ensures) at c.in-Ok.ensures.turns in
     record {
-      so_far = λ start h. so_far_more _ _ _ _ _ _ _ _ _ (c.lines.invariant.so_far start h) _ _ e.0 e.1 (turns_kept _ _ _ _ _ _ _ _ e.0.keeps c.lines.invariant.most t);
-      fits = c.in-Ok.ensures.fits;
+      so_far = λ start h. so_far_more _ _ _ _ _ _ _ _ _ (c.lines.invariant.so_far start h) _ _ e.0 e.1 (turns_kept _ _ _ _ _ _ _ _ e.0.keeps c.lines.invariant.most (turns_of _ _ _ _ _ _ _ c.lines.invariant.program t));
+      program = c.in-Ok.ensures.program ∙ c.lines.invariant.program;
+      is_program = subst IsProgram (sym c.in-Ok.ensures.program) c.lines.invariant.is_program;
+      built = subst (λ p. is_built p ≡ true) (sym c.in-Ok.ensures.program) c.lines.invariant.built;
       few = e.1;
-      number = number_more _ _ _ _ _ _ _ _ e.0 c.lines.invariant.number c.in-Ok.ensures.number;
       most = ap (λ (l : Clipped). l.most) e.0.keeps ∙ c.lines.invariant.most;
     }
 
@@ -60,20 +64,20 @@ pub returns-in-Err-Output : goal.returns-in-Err-Output
 returns-in-Err-Output g c =
     let e = rw c.in-Ok-Line.field-0-is at c.in-Ok-Line.ensures in
     let t = rw (c.in-Err-Output.field-0-is, c.trim_return.ensures, c.bytes.ensures) at c.in-Err-Output.ensures.turns in
-    λ start h. runs_output _ _ _ _ _ _ (ready_line _ _ _ _ _ _ _ _ _ (c.lines.invariant.so_far start h) e.0 e.1) _ (breaks_kept _ _ _ _ _ _ _ _ e.0.keeps c.lines.invariant.most t)
+    λ start h. runs_output _ _ _ _ _ _ (ready_line _ _ _ _ _ _ _ _ _ (c.lines.invariant.so_far start h) e.0 e.1) _ (breaks_kept _ _ _ _ _ _ _ _ e.0.keeps c.lines.invariant.most (breaks_of _ _ _ _ _ _ _ c.lines.invariant.program t))
 
 pub returns-in-Ok-End : goal.returns-in-Ok-End
 returns-in-Ok-End g c =
     let e = rw c.in-Ok-End.field-0-is at c.in-Ok-End.ensures in
-    let q = λ (start : Seen) (h : Starts start (g.O.Outside.seen c.args.out.now) c.args.program.now c.args.reader.now c.args.device.now). ready_end _ _ _ _ _ _ _ _ _ (c.lines.invariant.so_far start h) e.0 e.1 e.2 e.3 in
+    let q = λ (start : Seen) (h : Starts start (g.O.Outside.seen c.args.out.now) c.args.device.now.program c.args.reader.now c.args.device.now). ready_end _ _ _ _ _ _ _ _ _ (c.lines.invariant.so_far start h) e.0 e.1 e.2 e.3 in
     elim c.match-turn-2.branch [
       | in-Ok-turn w ↦
           let t = rw c.bytes-in-Ok-End.ensures at w.in-Ok-turn.ensures.turns in
-          rw (w.out-is, w.result-is) (λ start h. runs_done _ _ _ _ _ _ (q start h).0 _ (q start h).1 e.3 (turns_kept_last _ _ _ _ _ _ _ _ e.0.keeps c.lines.invariant.most t))
+          rw (w.out-is, w.result-is) (λ start h. runs_done _ _ _ _ _ _ (q start h).0 _ (q start h).1 e.3 (turns_kept_last _ _ _ _ _ _ _ _ e.0.keeps c.lines.invariant.most (turns_of _ _ _ _ _ _ _ c.lines.invariant.program t)))
       | in-Err-Memory-turn-2 w ↦
           let t = rw w.in-Err-Memory-turn-2.field-0-is at w.in-Err-Memory-turn-2.ensures.turns in
           rw (w.out-is, w.result-is) (λ start h. near_finish _ _ _ _ _ (near_memory _ _ _ _ _ _ (q start h).0 t) _ (λ x. absurd (cc)) w.finish-in-Err-Memory-turn-2.ensures)
       | in-Err-Output-turn w ↦
           let t = rw (w.in-Err-Output-turn.field-0-is, c.bytes-in-Ok-End.ensures) at w.in-Err-Output-turn.ensures.turns in
-          rw (w.out-is, w.result-is) (λ start h. runs_output _ _ _ _ _ _ (q start h).0 _ (breaks_kept_last _ _ _ _ _ _ _ _ e.0.keeps c.lines.invariant.most t))
+          rw (w.out-is, w.result-is) (λ start h. runs_output _ _ _ _ _ _ (q start h).0 _ (breaks_kept_last _ _ _ _ _ _ _ _ e.0.keeps c.lines.invariant.most (breaks_of _ _ _ _ _ _ _ c.lines.invariant.program t)))
     ]

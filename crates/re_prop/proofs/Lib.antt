@@ -1,3 +1,0 @@
-pub mod Before
-pub mod Choosing
-pub mod Givens
