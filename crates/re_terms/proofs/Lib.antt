@@ -12,8 +12,7 @@ pub mod OneMore
 pub mod Operations
 pub mod Registers
 pub mod Sets
-pub mod Signals
-pub mod States
+pub mod Ordered
 pub mod Unions
 pub mod Values
 pub mod WordOrders

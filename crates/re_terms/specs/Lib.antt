@@ -7,14 +7,13 @@ pub mod Kinds
 pub mod Layouts
 pub mod Listed
 pub mod Meaning
-pub mod Plain
 pub mod Programs
 pub mod Propagation
 pub mod Replication
 pub mod Runs
 pub mod ShapedUpdates
 pub mod Shapes
-pub mod Signal
+pub mod Cells
 pub mod SignalWords
 pub mod Tokens
 pub mod Trees
@@ -25,5 +24,4 @@ pub mod Values
 pub mod Vectors
 pub mod Views
 pub mod WordOrder
-pub mod World
 pub mod Worlds

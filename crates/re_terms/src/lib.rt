@@ -35,6 +35,7 @@ pub use replicated::{
     Act, Dot, Layout, Pair, RCell, RKind, RState, RepOp, Rows, SetFault, Shape, Vector, Written,
 };
 pub use seq::Seq;
+pub use shape::replicated_kind;
 pub use text::Text;
 pub use token::{Mark, Token};
 pub use vectors::{covers, join_vectors};
