@@ -16,7 +16,7 @@ IsRefused tokens fault.Memory = ⊥
 IsRefused tokens (fault.At byte) = IsUnexpected tokens byte
 IsRefused tokens (fault.Deep byte) = IsTooDeep tokens byte
 
--- what the tokens derive keeps the limits on open expressions, depths and numbers
+-- the tokens derive this tree, within the limits on open expressions, depths and numbers
 pub record HasTree (tokens : List Token) (tree : List RawDecl) : Type 0 where
   pub derived : Derives open_limit (marks_of tokens) tree
   pub declarations : list_all is_declaration tree ≡ true
