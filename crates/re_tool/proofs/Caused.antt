@@ -11,7 +11,7 @@ use Rattle.re_tool.specs.declared.faults.Refusal.{Refusal}
 use Rattle.re_tool.specs.declared.status.Status.{Status}
 use Rattle.re_tool.specs.declared.status.Status.TheVariants as status
 use Rattle.re_tool.specs.Answers.{Outcomes, answers, answers_by, status_of, status_in, status_with, behind_part, ending}
-use Rattle.re_tool.specs.Causes.{IsUnlessEnded, InputCause, OutputCause, EndCause, IsRead, TooMuch, TooLongCause, IsRefusedPart, ProgramCause}
+use Rattle.re_tool.specs.Causes.{IsUnlessEnded, InputCause, OutputCause, EndCause, IsRead, TooMuch, TooLongCause, IsRefusedPart, ProgramCause, Completes}
 use Rattle.re_tool.specs.Lines.{split, ended}
 use Rattle.re_tool.specs.Part.{Part, divided, part_of, part_by, is_over}
 use Rattle.re_tool.specs.Reads.{limit}
@@ -384,3 +384,42 @@ run_words j a b r = ending_words (is_over r.read) r.outcomes.input_failed (in_pa
 
 pub never_words : (j : Job) (a b : Seen) (s : Status) → Runs j a b s → s ≡ status.Words → ⊥
 never_words j a b s r h = run_words j a b (subst (Runs j a b) h r)
+
+-- ---- completeness
+
+ending_is : (over failed : Bool) → let e = (if over then status.TooLong else if failed then status.Input else status.Done) in (e ≡ status.TooLong) ⊎ ((e ≡ status.Input) ⊎ (e ≡ status.Done))
+ending_is true failed = inl refl
+ending_is false true = inr (inl refl)
+ending_is false false = inr (inr refl)
+
+-- what is read ends in these ways alone
+abbrev IsEnding : Status → Type 0
+IsEnding s = (s ≡ status.TooLong) ⊎ ((s ≡ status.Input) ⊎ (s ≡ status.Done))
+
+other_ending : (j : Job) (a b : Seen) (s : Status) → Runs j a b s → (s ≡ status.Memory → ⊥) → (s ≡ status.Output → ⊥) → (s ≡ status.Program → ⊥) → (s ≡ status.Done → ⊥) → (status.TooLong ≡ s) ⊎ (status.Input ≡ s)
+other_ending j a b s r m o p d = by (ending_is (is_over r.read) r.outcomes.input_failed) (in_part j r.verdict (part_of r.read r.outcomes.input_failed) (ending r.read r.outcomes.input_failed) s (status_read j a b s r m o) p d)
+  where
+    by : IsEnding (ending r.read r.outcomes.input_failed) → ending r.read r.outcomes.input_failed ≡ s → (status.TooLong ≡ s) ⊎ (status.Input ≡ s)
+    by (inl e) h = inl (sym e ∙ h)
+    by (inr (inl e)) h = inr (sym e ∙ h)
+    by (inr (inr e)) h = absurd (d (sym h ∙ e))
+
+no_other : (j : Job) (a b : Seen) (s : Status) → Runs j a b s → (s ≡ status.Memory → ⊥) → (s ≡ status.Output → ⊥) → (s ≡ status.Program → ⊥) → (s ≡ status.Done → ⊥) → (status.TooLong ≡ s → ⊥) → (status.Input ≡ s → ⊥) → ⊥
+no_other j a b s r m o p d t i = by (other_ending j a b s r m o p d)
+  where
+    by : (status.TooLong ≡ s) ⊎ (status.Input ≡ s) → ⊥
+    by (inl h) = t h
+    by (inr h) = i h
+
+pub completes : (j : Job) (a b : Seen) (s : Status) → Runs j a b s → Completes j a b s
+completes j a b status.Done r u = inl refl
+completes j a b status.Memory r u = inr refl
+completes j a b status.Program r u = absurd (u.accepted (at_program j a b r u.told))
+completes j a b status.Input r u = absurd (u.input (at_input j a b r))
+completes j a b status.Output r u = absurd (u.output (output_cause j a b status.Output r))
+completes j a b status.TooLong r u = absurd (u.few (at_too_long j a b r u.told))
+completes j a b status.Words r u = absurd (no_other j a b status.Words r (λ h. absurd (cc)) (λ h. absurd (cc)) (λ h. absurd (cc)) (λ h. absurd (cc)) (λ h. absurd (cc)) (λ h. absurd (cc)))
+completes j a b status.Store r u = absurd (no_other j a b status.Store r (λ h. absurd (cc)) (λ h. absurd (cc)) (λ h. absurd (cc)) (λ h. absurd (cc)) (λ h. absurd (cc)) (λ h. absurd (cc)))
+completes j a b status.OtherProgram r u = absurd (no_other j a b status.OtherProgram r (λ h. absurd (cc)) (λ h. absurd (cc)) (λ h. absurd (cc)) (λ h. absurd (cc)) (λ h. absurd (cc)) (λ h. absurd (cc)))
+completes j a b status.Disk r u = absurd (no_other j a b status.Disk r (λ h. absurd (cc)) (λ h. absurd (cc)) (λ h. absurd (cc)) (λ h. absurd (cc)) (λ h. absurd (cc)) (λ h. absurd (cc)))
+completes j a b status.Line r u = absurd (no_other j a b status.Line r (λ h. absurd (cc)) (λ h. absurd (cc)) (λ h. absurd (cc)) (λ h. absurd (cc)) (λ h. absurd (cc)) (λ h. absurd (cc)))

@@ -22,8 +22,8 @@ use Rattle.re_tool.specs.declared.words.Job.{Job}
 use Rattle.re_tool.specs.declared.words.Job.TheVariants as job
 use Rattle.re_tool.specs.Built.{is_built}
 use Rattle.re_tool.specs.Faults.{lex_fault, syntax_fault, type_fault}
-use Rattle.re_tool.specs.Verdict.{Verdict, Unknown, Rejected, Accepted, HasTokens, HasTree, Judges, no_token, unexpected, too_deep, whole, Settles, HasVerdict, Decides, verdict_of}
-use Rattle.re_tool.proofs.Settling.{TreeOnly, tree_settled}
+use Rattle.re_tool.specs.Verdict.{Verdict, Unknown, Rejected, Accepted, HasTokens, HasTree, Judges, no_token, unexpected, too_deep, whole, HasVerdict, Decides, verdict_of}
+use Rattle.re_tool.proofs.Settling.{decided}
 
 same_refusal : (a b : Refusal) → program.Refused a ≡ program.Refused b → a ≡ b
 same_refusal a b e = cc
@@ -76,10 +76,10 @@ long_judged text tree p result has is answer long =
     let e : verdict_of (Ok p) ≡ Rejected refusal.TooLong = rw long refl in
     whole has (sym e ∙ ap verdict_of (resolves tree p result is answer))
 
-pub accepted_judged : (text : List ℕ) (tree : Tree) (p : Program) (result : Result Program TypeFault) → TreeOnly text tree → result ≡ Ok p → ((result ≡ Err fault.Memory → ⊥) → result ≡ resolved tree) → nat_lt 65536 (length (program_text p)) ≡ false → Settles text p
+pub accepted_judged : (text : List ℕ) (tree : Tree) (p : Program) (result : Result Program TypeFault) → HasTree text tree → result ≡ Ok p → ((result ≡ Err fault.Memory → ⊥) → result ≡ resolved tree) → nat_lt 65536 (length (program_text p)) ≡ false → Judges text (Accepted p)
 accepted_judged text tree p result has is answer short =
     let e : verdict_of (Ok p) ≡ Accepted p = rw short refl in
-    tree_settled text tree p has (sym e ∙ ap verdict_of (resolves tree p result is answer))
+    whole has (sym e ∙ ap verdict_of (resolves tree p result is answer))
 
 -- a refusal in other words
 pub refused_as : (text : List ℕ) (a b : Refusal) → ◌≡◌ {A = Result Program ProgramFault} (Err (program.Refused a)) (Err (program.Refused b)) → Judges text (Rejected a) → Judges text (Rejected b)
@@ -87,46 +87,26 @@ refused_as text a b e h = let same : a ≡ b = cc in subst (λ why. Judges text 
 
 -- ---- for a job
 
-refused_not : (why : Refusal) (p : Program) → Rejected why ≡ Accepted p → ⊥
-refused_not why p e = cc
-
-same_program : (p q : Program) → Accepted p ≡ Accepted q → p ≡ q
-same_program p q e = cc
-
 rejected_has : (j : Job) (text : List ℕ) (why : Refusal) → Judges text (Rejected why) → HasVerdict j text (Rejected why)
 rejected_has job.Run text why h = inl h
 rejected_has job.Check text why h = h
 
 pub rejected_for : (j : Job) (text : List ℕ) (why : Refusal) → Judges text (Rejected why) → Decides j text (Rejected why)
-rejected_for j text why h = record { has = rejected_has j text why h; only = tt }
+rejected_for j text why h = decided j text (Rejected why) (rejected_has j text why h)
 
 -- a program is accepted by `check`
-checked_only : (text : List ℕ) (p : Program) (w : Verdict) → Settles text p → HasVerdict job.Check text w → w ≡ Accepted p
-checked_only text p Unknown s h = absurd h
-checked_only text p (Rejected why) s h = s.only (Rejected why) h
-checked_only text p (Accepted q) s h = s.only (Accepted q) h
-
-pub accepted_checked : (text : List ℕ) (p : Program) → Settles text p → Decides job.Check text (Accepted p)
-accepted_checked text p s = record { has = s.is; only = λ w h. checked_only text p w s h }
+pub accepted_checked : (text : List ℕ) (p : Program) → Judges text (Accepted p) → Decides job.Check text (Accepted p)
+accepted_checked text p h = decided job.Check text (Accepted p) h
 
 -- and by `run` where it can be run
-unbuilt_not : (p q : Program) → q ≡ p → is_built p ≡ true → is_built q ≡ false → ⊥
-unbuilt_not p q e b h = let k : false ≡ true = sym h ∙ ap is_built e ∙ b in cc
-
-run_only : (text : List ℕ) (p : Program) (w : Verdict) → Settles text p → is_built p ≡ true → HasVerdict job.Run text w → w ≡ Accepted p
-run_only text p Unknown s b h = absurd h
-run_only text p (Rejected why) s b (inl h) = s.only (Rejected why) h
-run_only text p (Rejected why) s b (inr h) = absurd (unbuilt_not p h.program (same_program h.program p (s.only (Accepted h.program) h.accepted)) b h.unbuilt)
-run_only text p (Accepted q) s b h = s.only (Accepted q) h.0
-
-pub accepted_run : (text : List ℕ) (p : Program) → Settles text p → is_built p ≡ true → Decides job.Run text (Accepted p)
-accepted_run text p s b = record { has = (s.is, b); only = λ w h. run_only text p w s b h }
+pub accepted_run : (text : List ℕ) (p : Program) → Judges text (Accepted p) → is_built p ≡ true → Decides job.Run text (Accepted p)
+accepted_run text p h b = decided job.Run text (Accepted p) (h, b)
 
 -- a program that can't be run so far
-pub not_built : (text : List ℕ) (p : Program) (why : Refusal) → Settles text p → is_built p ≡ false → ◌≡◌ {A = Result Program ProgramFault} (Err (program.Refused refusal.NotBuilt)) (Err (program.Refused why)) → Decides job.Run text (Rejected why)
-not_built text p why s b e =
+pub not_built : (text : List ℕ) (p : Program) (why : Refusal) → Judges text (Accepted p) → is_built p ≡ false → ◌≡◌ {A = Result Program ProgramFault} (Err (program.Refused refusal.NotBuilt)) (Err (program.Refused why)) → Decides job.Run text (Rejected why)
+not_built text p why h b e =
     let same : why ≡ refusal.NotBuilt = cc in
-    record { has = inr record { program = p; accepted = s.is; unbuilt = b; is = same }; only = tt }
+    decided job.Run text (Rejected why) (inr record { program = p; accepted = h; unbuilt = b; is = same })
 
 -- the fault that a call handed on
 pub handed : (r : Result Program ProgramFault) (x y : ProgramFault) → r ≡ Err x → r ≡ Err y → x ≡ y

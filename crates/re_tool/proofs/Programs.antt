@@ -8,7 +8,7 @@ use Rattle.re_tool.specs.declared.words.Job.{Job}
 use Rattle.re_tool.specs.declared.words.Job.TheVariants as job
 use Rattle.re_commands.specs.Commanding.{commanded}
 use Rattle.re_tool.specs.Lines.{without_return}
-use Rattle.re_tool.specs.Verdict.{Verdict, Unknown, Rejected, Accepted, Judges, too_long, no_token, unexpected, too_deep, whole, HasVerdict, IsSole, Decides}
+use Rattle.re_tool.specs.Verdict.{Verdict, Unknown, Rejected, Accepted, Judges, too_long, no_token, unexpected, too_deep, whole, HasVerdict, Decides}
 use Rattle.re_tool.proofs.Clipping.{length-without_return}
 
 -- a text that is too long is refused as such, and so is what is kept of it
@@ -57,14 +57,9 @@ has_back job.Run text (Rejected why) (inl h) = inl (back text (Rejected why) h)
 has_back job.Run text (Rejected why) (inr h) = inr record { program = h.program; accepted = back text (Accepted h.program) h.accepted; unbuilt = h.unbuilt; is = h.is }
 has_back job.Run text (Accepted p) h = (back text (Accepted p) h.0, h.1)
 
-sole_kept : (j : Job) (text : List ℕ) (v : Verdict) → IsSole j (take 65537 text) v → IsSole j text v
-sole_kept j text Unknown h = h
-sole_kept j text (Rejected why) h = h
-sole_kept j text (Accepted p) h = λ w k. h w (has_back j text w k)
-
 -- what is kept of a program part has its verdict
 pub verdict-kept : (j : Job) (text : List ℕ) (v : Verdict) → Decides j (take 65537 text) v → Decides j text v
-verdict-kept j text v d = record { has = has_kept j text v d.has; only = sole_kept j text v d.only }
+verdict-kept j text v d = record { has = has_kept j text v d.has; only = λ w k. d.only w (has_back j text w k) }
 
 line-long : (p : Program) (line : List ℕ) → 1024 < length line → commanded p line ≡ Err fault.Syntax
 line-long p line h = rw (lt-ltb 1024 (length line) h) refl

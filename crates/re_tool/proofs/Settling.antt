@@ -1,74 +1,111 @@
--- Where a program is read no refusal holds.
-use Rattle.std.proofs.Common.{arith, ◌≡◌, ◌≤◌, ◌<◌, ◌+◌, ◌++◌, ◌⊎◌, inl, inr, ℕ, List, length, take, drop, sym, ◌∙◌, ap, subst, refl, true, Some, append_assoc}
-use Rattle.std.specs.Prelude.{slice_get}
-use Rattle.std.specs.List.{list_all}
-use Rattle.std.proofs.lemmas.Bool.{cases_lt}
-use Rattle.std.proofs.lemmas.List.{take-append-drop, take-take}
-use Rattle.re_terms.specs.Trees.{is_declaration}
-use Rattle.re_terms.specs.declared.token.Mark.{Mark}
+-- A program part has one verdict.
+use Rattle.std.proofs.Common.{arith, ◌≡◌, ◌≤◌, ◌<◌, ℕ, List, length, sym, ◌∙◌, ap, subst, true, false, inl, inr}
+use Rattle.re_terms.specs.Tokens.{IsTokenList}
+use Rattle.re_terms.specs.declared.program.Program.{Program}
 use Rattle.re_terms.specs.declared.token.Token.{Token}
 use Rattle.re_terms.specs.declared.raw.RawDecl.{RawDecl}
 use Rattle.re_terms.specs.declared.raw.Tree.{Tree}
-use Rattle.re_tokens.specs.TokenGrammar.{NoTokenAt}
+use Rattle.re_tokens.proofs.Lists.{is_token_list}
 use Rattle.re_tokens.proofs.Sameness.{one_list, one_place, never_both}
 use Rattle.re_syntax.specs.Grammar.{marks_of, Derives}
-use Rattle.re_syntax.specs.Places.{open_limit, Begins, StandsAt, IsUnexpected, OpensTooMany, EndsTooDeep, IsTooDeep}
+use Rattle.re_syntax.specs.OneAnswer.{IsRefused}
+use Rattle.re_syntax.specs.OneAnswer as syntax
+use Rattle.re_syntax.specs.Places.{open_limit, IsUnexpected, IsTooDeep}
+use Rattle.re_syntax.specs.declared.fault.SyntaxFault.{SyntaxFault}
+use Rattle.re_syntax.specs.declared.fault.SyntaxFault.TheVariants as fault
+use Rattle.re_syntax.proofs.OneAnswer.{no_other_tree, no_other_refusal, not_both}
 use Rattle.re_types.specs.Resolving.{resolved}
-use Rattle.re_terms.specs.declared.program.Program.{Program}
-use Rattle.re_tool.specs.Verdict.{Verdict, Accepted, HasTokens, HasTree, Judges, too_long, no_token, unexpected, too_deep, whole, Settles, verdict_of}
-
--- what begins a program begins it with fewer marks too
-begins_less : (limit : ℕ → ℕ) (marks : List Mark) (m n : ℕ) → m ≤ n → Begins limit marks n → Begins limit marks m
-begins_less limit marks m n less b = record {
-  more = drop m (take n marks) ++ b.more;
-  program = b.program;
-  derived = subst (λ x. Derives limit x b.program) same b.derived;
-}
-  where
-    same : take n marks ++ b.more ≡ take m marks ++ (drop m (take n marks) ++ b.more)
-    same =
-        ap (λ x. x ++ b.more) (sym (take-append-drop m (take n marks)) ∙ ap (λ x. x ++ drop m (take n marks)) (take-take m n marks less))
-        ∙ append_assoc (take m marks) (drop m (take n marks)) b.more
-
--- the front of a program begins it
-front_begins : (limit : ℕ → ℕ) (marks : List Mark) (ds : List RawDecl) (n : ℕ) → Derives limit marks ds → Begins limit marks n
-front_begins limit marks ds n d = record { more = drop n marks; program = ds; derived = subst (λ x. Derives limit x ds) (sym (take-append-drop n marks)) d }
-
-unexpected_whole : (tokens : List Token) (a : ℕ) (ds : List RawDecl) → IsUnexpected tokens a → Derives open_limit (marks_of tokens) ds → ⊥
-unexpected_whole tokens a ds u d = u.ended open_limit (front_begins open_limit (marks_of tokens) ds (u.number + 1) d)
-
-open_whole : (tokens : List Token) (a : ℕ) (ds : List RawDecl) → OpensTooMany tokens a → Derives open_limit (marks_of tokens) ds → ⊥
-open_whole tokens a ds o d = o.ended open_limit (λ k less. omega arith) (front_begins open_limit (marks_of tokens) ds (o.number + 1) d)
-
-deep_whole : (tokens : List Token) (a : ℕ) (ds : List RawDecl) → ((byte : ℕ) → EndsTooDeep tokens byte → ⊥) → IsTooDeep tokens a → Derives open_limit (marks_of tokens) ds → ⊥
-deep_whole tokens a ds shallow (inl o) d = open_whole tokens a ds o d
-deep_whole tokens a ds shallow (inr e) d = shallow a e
-
--- ---- what is settled
+use Rattle.re_tool.specs.declared.words.Job.{Job}
+use Rattle.re_tool.specs.declared.words.Job.TheVariants as job
+use Rattle.re_tool.specs.declared.faults.Refusal.{Refusal}
+use Rattle.re_tool.specs.declared.faults.Refusal.TheVariants as refusal
+use Rattle.re_tool.specs.Built.{is_built}
+use Rattle.re_tool.specs.Verdict.{Verdict, Unknown, Rejected, Accepted, HasTokens, HasTree, Judges, too_long, no_token, unexpected, too_deep, whole, HasVerdict, Decides, verdict_of}
 
 tokens_same : {text : List ℕ} {t u : List Token} → HasTokens text t → HasTokens text u → u ≡ t
 tokens_same {text} {t} {u} h k = one_list text u t k.spelled h.spelled
 
--- what is known of a tree that was read
-pub record TreeOnly (text : List ℕ) (tree : Tree) : Type 0 where
-  pub has : HasTree text tree
-  pub only : (ds : List RawDecl) → Derives open_limit (marks_of has.tokens) ds → ds ≡ tree.decls.items
-  pub shallow : (byte : ℕ) → EndsTooDeep has.tokens byte → ⊥
+-- the refusal of a list of tokens, as a verdict
+abbrev syntax_verdict : SyntaxFault → Verdict
+syntax_verdict fault.Memory = Unknown
+syntax_verdict (fault.At place) = Rejected (refusal.Unexpected place)
+syntax_verdict (fault.Deep place) = Rejected (refusal.TooDeep place)
+
+refused_once : {text : List ℕ} {t u : List Token} (one other : SyntaxFault) → HasTokens text t → HasTokens text u → IsRefused t one → IsRefused u other → syntax_verdict other ≡ syntax_verdict one
+refused_once {text} {t} {u} one other h k a b =
+    ap syntax_verdict (no_other_refusal t (is_token_list text t h.spelled) one other a (subst (λ x. IsRefused x other) (tokens_same h k) b))
+
+-- a tree and a refusal
+refused_whole : {text : List ℕ} {tree : Tree} {u : List Token} (one : SyntaxFault) → HasTree text tree → HasTokens text u → IsRefused u one → ⊥
+refused_whole {text} {tree} {u} one s k b =
+    not_both s.tokens (is_token_list text s.tokens s.has.spelled) tree.decls.items one (record { derived = s.derives; declarations = s.limits.declarations }) (subst (λ x. IsRefused x one) (tokens_same s.has k) b)
 
 tree_is : (a b : Tree) → a.decls.items ≡ b.decls.items → a.decls.spare ≡ 0 → b.decls.spare ≡ 0 → a ≡ b
 tree_is a b e p q =
     let f : List RawDecl → ℕ → Tree = λ items spare. record { decls = record { items = items; spare = spare } } in
     ap (λ items. f items a.decls.spare) e ∙ ap (f b.decls.items) (p ∙ sym q)
 
-one_tree : {text : List ℕ} {tree other : Tree} → TreeOnly text tree → HasTree text other → other ≡ tree
-one_tree {text} {tree} {other} t s = tree_is other tree (t.only other.decls.items (subst (λ x. Derives open_limit (marks_of x) other.decls.items) (tokens_same t.has.has s.has) s.derives)) s.limits.plain t.has.limits.plain
+one_tree : {text : List ℕ} {tree other : Tree} → HasTree text tree → HasTree text other → other ≡ tree
+one_tree {text} {tree} {other} t s =
+    tree_is other tree (no_other_tree t.tokens (is_token_list text t.tokens t.has.spelled) open_limit tree.decls.items other.decls.items t.derives (subst (λ x. Derives open_limit (marks_of x) other.decls.items) (tokens_same t.has s.has) s.derives)) s.limits.plain t.limits.plain
 
-tree_only : {text : List ℕ} {tree : Tree} (w : Verdict) → TreeOnly text tree → Judges text w → w ≡ verdict_of (resolved tree)
-tree_only w t (too_long h e) = absurd (let k = t.has.has.few in omega arith)
-tree_only {text} w t (no_token {place = other} h n e) = absurd (never_both text t.has.tokens other t.has.has.spelled n)
-tree_only {text} {tree} w t (unexpected {tokens = others} {place = at} s v e) = absurd (unexpected_whole t.has.tokens at tree.decls.items (subst (λ x. IsUnexpected x at) (tokens_same t.has.has s) v) t.has.derives)
-tree_only {text} {tree} w t (too_deep {tokens = others} {place = at} s d e) = absurd (deep_whole t.has.tokens at tree.decls.items t.shallow (subst (λ x. IsTooDeep x at) (tokens_same t.has.has s) d) t.has.derives)
-tree_only w t (whole {tree = other} s e) = e ∙ ap (λ x. verdict_of (resolved x)) (one_tree t s)
+-- a program part is judged in one way
+judged_once : (text : List ℕ) (v w : Verdict) → Judges text v → Judges text w → w ≡ v
+judged_once text v w (too_long h e) (too_long k f) = f ∙ sym e
+judged_once text v w (too_long h e) (no_token k n f) = absurd (omega (arith, h, k))
+judged_once text v w (too_long h e) (unexpected k u f) = absurd (let l = k.few in omega (arith, h, l))
+judged_once text v w (too_long h e) (too_deep k d f) = absurd (let l = k.few in omega (arith, h, l))
+judged_once text v w (too_long h e) (whole k f) = absurd (let l = k.has.few in omega (arith, h, l))
+judged_once text v w (no_token h n e) (too_long k f) = absurd (omega (arith, h, k))
+judged_once text v w (no_token {place = a} h n e) (no_token {place = b} k m f) = f ∙ ap (λ place. Rejected (refusal.NoToken place)) (one_place text b a m n) ∙ sym e
+judged_once text v w (no_token {place = a} h n e) (unexpected {tokens = t} k u f) = absurd (never_both text t a k.spelled n)
+judged_once text v w (no_token {place = a} h n e) (too_deep {tokens = t} k d f) = absurd (never_both text t a k.spelled n)
+judged_once text v w (no_token {place = a} h n e) (whole k f) = absurd (never_both text k.tokens a k.has.spelled n)
+judged_once text v w (unexpected h u e) (too_long k f) = absurd (let l = h.few in omega (arith, k, l))
+judged_once text v w (unexpected {tokens = t} h u e) (no_token {place = b} k m f) = absurd (never_both text t b h.spelled m)
+judged_once text v w (unexpected {place = a} h u e) (unexpected {place = b} k x f) = f ∙ refused_once (fault.At a) (fault.At b) h k u x ∙ sym e
+judged_once text v w (unexpected {place = a} h u e) (too_deep {place = b} k d f) = f ∙ refused_once (fault.At a) (fault.Deep b) h k u d ∙ sym e
+judged_once text v w (unexpected {place = a} h u e) (whole k f) = absurd (refused_whole (fault.At a) k h u)
+judged_once text v w (too_deep h d e) (too_long k f) = absurd (let l = h.few in omega (arith, k, l))
+judged_once text v w (too_deep {tokens = t} h d e) (no_token {place = b} k m f) = absurd (never_both text t b h.spelled m)
+judged_once text v w (too_deep {place = a} h d e) (unexpected {place = b} k x f) = f ∙ refused_once (fault.Deep a) (fault.At b) h k d x ∙ sym e
+judged_once text v w (too_deep {place = a} h d e) (too_deep {place = b} k x f) = f ∙ refused_once (fault.Deep a) (fault.Deep b) h k d x ∙ sym e
+judged_once text v w (too_deep {place = a} h d e) (whole k f) = absurd (refused_whole (fault.Deep a) k h d)
+judged_once text v w (whole h e) (too_long k f) = absurd (let l = h.has.few in omega (arith, k, l))
+judged_once text v w (whole h e) (no_token {place = b} k m f) = absurd (never_both text h.tokens b h.has.spelled m)
+judged_once text v w (whole h e) (unexpected {place = b} k x f) = absurd (refused_whole (fault.At b) h k x)
+judged_once text v w (whole h e) (too_deep {place = b} k x f) = absurd (refused_whole (fault.Deep b) h k x)
+judged_once text v w (whole h e) (whole k f) = f ∙ ap (λ x. verdict_of (resolved x)) (one_tree h k) ∙ sym e
 
-pub tree_settled : (text : List ℕ) (tree : Tree) (p : Program) → TreeOnly text tree → Accepted p ≡ verdict_of (resolved tree) → Settles text p
-tree_settled text tree p t e = record { is = whole t.has e; only = λ w j. tree_only w t j ∙ sym e }
+-- ---- for a job
+
+accepted_not : (why : Refusal) (p : Program) → Accepted p ≡ Rejected why → ⊥
+accepted_not why p e = cc
+
+same_program : (p q : Program) → Accepted p ≡ Accepted q → p ≡ q
+same_program p q e = cc
+
+unbuilt_not : (p q : Program) → q ≡ p → is_built p ≡ true → is_built q ≡ false → ⊥
+unbuilt_not p q e b h = let k : false ≡ true = sym h ∙ ap is_built e ∙ b in cc
+
+verdict_once : (j : Job) (text : List ℕ) (v w : Verdict) → HasVerdict j text v → HasVerdict j text w → w ≡ v
+verdict_once j text Unknown w h k = absurd h
+verdict_once j text (Rejected why) Unknown h k = absurd k
+verdict_once j text (Accepted p) Unknown h k = absurd k
+verdict_once job.Check text (Rejected why) (Rejected other) h k = judged_once text (Rejected why) (Rejected other) h k
+verdict_once job.Check text (Rejected why) (Accepted q) h k = judged_once text (Rejected why) (Accepted q) h k
+verdict_once job.Check text (Accepted p) (Rejected other) h k = judged_once text (Accepted p) (Rejected other) h k
+verdict_once job.Check text (Accepted p) (Accepted q) h k = judged_once text (Accepted p) (Accepted q) h k
+verdict_once job.Run text (Rejected why) (Rejected other) (inl h) (inl k) = judged_once text (Rejected why) (Rejected other) h k
+verdict_once job.Run text (Rejected why) (Rejected other) (inl h) (inr k) = absurd (accepted_not why k.program (judged_once text (Rejected why) (Accepted k.program) h k.accepted))
+verdict_once job.Run text (Rejected why) (Rejected other) (inr h) (inl k) = absurd (accepted_not other h.program (judged_once text (Rejected other) (Accepted h.program) k h.accepted))
+verdict_once job.Run text (Rejected why) (Rejected other) (inr h) (inr k) = ap Rejected (k.is ∙ sym h.is)
+verdict_once job.Run text (Rejected why) (Accepted q) (inl h) k = judged_once text (Rejected why) (Accepted q) h k.0
+verdict_once job.Run text (Rejected why) (Accepted q) (inr h) k = absurd (unbuilt_not q h.program (same_program h.program q (judged_once text (Accepted q) (Accepted h.program) k.0 h.accepted)) k.1 h.unbuilt)
+verdict_once job.Run text (Accepted p) (Rejected other) h (inl k) = judged_once text (Accepted p) (Rejected other) h.0 k
+verdict_once job.Run text (Accepted p) (Rejected other) h (inr k) = absurd (unbuilt_not p k.program (same_program k.program p (judged_once text (Accepted p) (Accepted k.program) h.0 k.accepted)) h.1 k.unbuilt)
+verdict_once job.Run text (Accepted p) (Accepted q) h k = judged_once text (Accepted p) (Accepted q) h.0 k.0
+
+-- what a program part is, is all that it is
+pub decided : (j : Job) (text : List ℕ) (v : Verdict) → HasVerdict j text v → Decides j text v
+decided j text v h = record { has = h; only = λ w k. verdict_once j text v w h k }

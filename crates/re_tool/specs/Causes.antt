@@ -69,3 +69,15 @@ pub record ProgramCause (j : Job) (old new : Seen) (s : Status) : Type 0 where
   -- where the input was the program part and is refused; a failed `take` may come first
   pub at_end : (read : List ℕ) (why : Refusal) (part : Part) → old.told ≡ true → old.left ≡ read ++ new.left → length read ≤ limit → part_of read false ≡ Some part → HasVerdict j part.text (Rejected why)
       → IsUnlessEnded status.Program s ⊎ (s ≡ status.Input)
+
+-- No count of faults rose, no byte too many came, and the program part, if it was read whole, isn't refused.
+pub record IsUntroubled (j : Job) (old new : Seen) : Type 0 where
+  pub told : old.told ≡ true
+  pub input : Counts 1 old.input_faults new.input_faults → ⊥
+  pub output : Counts 1 old.output_faults new.output_faults → ⊥
+  pub few : TooMuch old new → ⊥
+  pub accepted : IsRefusedPart j old new → ⊥
+
+-- Such a run ends with status 0, or with 9 for want of memory.
+abbrev pub Completes : Job → Seen → Seen → Status → Type 0
+Completes j old new s = IsUntroubled j old new → (s ≡ status.Done) ⊎ (s ≡ status.Memory)

@@ -62,11 +62,6 @@ pub data Judges (text : List ℕ) (v : Verdict) : Type 0 where
   too_deep : {tokens : List Token} {place : ℕ} → HasTokens text tokens → IsTooDeep tokens place → v ≡ Rejected (refusal.TooDeep place) → Judges text v
   whole : {tree : Tree} → HasTree text tree → v ≡ verdict_of (resolved tree) → Judges text v
 
--- it is this program and nothing else
-pub record Settles (text : List ℕ) (p : Program) : Type 0 where
-  pub is : Judges text (Accepted p)
-  pub only : (w : Verdict) → Judges text w → w ≡ Accepted p
-
 -- a program that can't be run so far
 pub record IsNotBuilt (text : List ℕ) (why : Refusal) : Type 0 where
   pub program : Program
@@ -82,15 +77,10 @@ HasVerdict job.Check text (Accepted p) = Judges text (Accepted p)
 HasVerdict job.Run text (Rejected why) = Judges text (Rejected why) ⊎ IsNotBuilt text why
 HasVerdict job.Run text (Accepted p) = Judges text (Accepted p) × (is_built p ≡ true)
 
--- what is accepted has no other verdict
-abbrev pub IsSole : Job → List ℕ → Verdict → Type 0
-IsSole j text (Accepted p) = (w : Verdict) → HasVerdict j text w → w ≡ Accepted p
-IsSole j text v = Unit {0}
-
--- for this job a program part has this verdict, and no other where it is accepted
+-- for this job a program part has this verdict, and no other
 pub record Decides (j : Job) (text : List ℕ) (v : Verdict) : Type 0 where
   pub has : HasVerdict j text v
-  pub only : IsSole j text v
+  pub only : (w : Verdict) → HasVerdict j text w → w ≡ v
 
 -- the verdict is that of the program part, where there is one, unless memory ran out before the first line
 abbrev pub IsJudged : Job → Verdict → Option Part → Option (ℕ × Bool) → Type 0

@@ -3,7 +3,7 @@ ghost use Rattle.std.specs.Prelude.{◌≡◌, true, length, nat_lt, IfOk, Err};
 ghost use Rattle.re_print.specs.Canonical.{program_text};
 ghost use Rattle.re_terms.specs.Programs.{IsProgram};
 ghost use Rattle.re_tool.specs.Built.{is_built as is_built_program};
-ghost use Rattle.re_tool.specs.Verdict.{text_limit, Decides, Judges, Settles, Rejected, Accepted};
+ghost use Rattle.re_tool.specs.Verdict.{text_limit, Decides, Judges, Rejected, Accepted};
 
 use crate::built::is_built;
 use crate::faults::{ProgramFault, Refusal};
@@ -27,7 +27,7 @@ fn is_long(alloc: Global, program: &Program) -> Result<bool, AllocError>
 
 /// Reads a program part, whether or not it can be run so far.
 fn judge(alloc: Global, text: &[u8]) -> Result<Program, ProgramFault>
-    ensures accepted { IfOk result (λ p. Settles text.now p) }
+    ensures accepted { IfOk result (λ p. Judges text.now (Accepted p)) }
     ensures refused { (why : Refusal) → result ≡ Err (ProgramFault.Refused why) → Judges text.now (Rejected why) }
     ensures program { IfOk result IsProgram }
 {

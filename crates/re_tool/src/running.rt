@@ -6,7 +6,7 @@ ghost use Rattle.re_terms.specs.Programs.{IsProgram};
 ghost use Rattle.re_terms.specs.Worlds.{plain_answer};
 ghost use Rattle.re_tool.specs.Answers.{status_line, fault_code};
 ghost use Rattle.re_tool.specs.Built.{is_built};
-ghost use Rattle.re_tool.specs.Causes.{EndCause, ProgramCause, InputCause, OutputCause, TooLongCause};
+ghost use Rattle.re_tool.specs.Causes.{EndCause, ProgramCause, InputCause, OutputCause, TooLongCause, Completes};
 ghost use Rattle.re_tool.specs.Device.{StepsTo, turn_fault_code};
 ghost use Rattle.re_tool.specs.Clipped.{Clipped};
 ghost use Rattle.re_tool.specs.PartReading.{PartIs};
@@ -380,6 +380,7 @@ pub fn session<O: Outside>(alloc: Global, job: &Job, out: &mut O) -> Status
     ensures input { InputCause (O.seen out.old) (O.seen out.new) result }
     ensures output { OutputCause (O.seen out.old) (O.seen out.new) result }
     ensures too_long { TooLongCause (O.seen out.old) (O.seen out.new) result }
+    ensures complete { Completes job.now (O.seen out.old) (O.seen out.new) result }
 {
     match job {
         Job::Run => run(alloc, out),

@@ -1,7 +1,7 @@
 //! The top call.
 ghost use Rattle.std.specs.Prelude.{◌≡◌, Some, None, map};
 ghost use Rattle.std.specs.String.{string_bytes};
-ghost use Rattle.re_tool.specs.Causes.{EndCause, ProgramCause, InputCause, OutputCause, TooLongCause};
+ghost use Rattle.re_tool.specs.Causes.{EndCause, ProgramCause, InputCause, OutputCause, TooLongCause, Completes};
 ghost use Rattle.re_tool.specs.Session.{Runs, Refuses};
 ghost use Rattle.re_tool.specs.Words.{job_of};
 
@@ -33,6 +33,7 @@ pub fn tool<R: Threads + Wait + Sync, O: Outside + Send, G: Gate>(
     ensures input { InputCause (O.Outside.seen out.old) (O.Outside.seen out.new) result }
     ensures output { OutputCause (O.Outside.seen out.old) (O.Outside.seen out.new) result }
     ensures too_long { TooLongCause (O.Outside.seen out.old) (O.Outside.seen out.new) result }
+    ensures complete { (job : Job) → job_of (map string_bytes words.now) ≡ Some job → Completes job (O.Outside.seen out.old) (O.Outside.seen out.new) result }
 {
     match read_words(alloc, words) {
         Ok(Wish::Job(job)) => session(alloc, &job, out),

@@ -1,7 +1,6 @@
 use Rattle.std.proofs.Common.{arith, ◌∙◌, sym, ap, refl, Err}
 use Rattle.std.proofs.lemmas.Result.{err_from_is_err_and}
 use Rattle.re_tool.proofs.Judging.{lex_judged, syntax_judged, type_judged, long_judged, accepted_judged, handed, refused_as}
-use Rattle.re_syntax.specs.Places.{open_limit}
 use Rattle.re_tool.specs.Verdict.{too_long}
 use Rattle.re_tool.proofs.reading.judge.Goals as goal
 
@@ -35,5 +34,5 @@ returns-then-branch-clause-refused c = λ why e. refused_as _ _ why e
 pub returns-clause-accepted : goal.returns-clause-accepted
 returns-clause-accepted c =
     accepted_judged _ c.in_ok-tree.tree c.in_ok-program.program c.resolve.result
-    (record { has = record { tokens = c.in_ok-tokens.tokens.items; has = record { few = omega arith; spelled = c.in_ok-tokens.ensures.read }; derives = c.in_ok-tree.ensures.tree; limits = c.in_ok-tree.ensures.limits }; only = c.in_ok-tree.ensures.only open_limit; shallow = c.in_ok-tree.ensures.shallow })
+    (record { tokens = c.in_ok-tokens.tokens.items; has = record { few = omega arith; spelled = c.in_ok-tokens.ensures.read }; derives = c.in_ok-tree.ensures.tree; limits = c.in_ok-tree.ensures.limits })
     c.in_ok-program.was c.resolve.ensures.answer (sym c.in_ok-is_long.ensures ∙ c.if-branch.false)

@@ -1,4 +1,4 @@
-use Rattle.re_tool.proofs.Caused.{program_cause, input_cause, too_long_cause, end_cause}
+use Rattle.re_tool.proofs.Caused.{program_cause, input_cause, too_long_cause, end_cause, completes}
 use Rattle.re_tool.proofs.running.session.Goals as goal
 
 pub returns-in-Run-clause-program : goal.returns-in-Run-clause-program
@@ -21,3 +21,9 @@ returns-in-Check-clause-input g c = input_cause _ _ _ _ c.check.ensures
 
 pub returns-in-Check-clause-too_long : goal.returns-in-Check-clause-too_long
 returns-in-Check-clause-too_long g c = too_long_cause _ _ _ _ c.check.ensures
+
+pub returns-in-Run-clause-complete : goal.returns-in-Run-clause-complete
+returns-in-Run-clause-complete g c = rw c.in-Run.is (completes _ _ _ _ c.run.ensures)
+
+pub returns-in-Check-clause-complete : goal.returns-in-Check-clause-complete
+returns-in-Check-clause-complete g c = rw c.in-Check.is (completes _ _ _ _ c.check.ensures)
