@@ -2,7 +2,9 @@
 #![tactic(auto)]
 
 mod device;
+mod env;
 mod fault;
+mod places;
 
 pub use device::Device;
 pub use fault::{DeviceFault, Done};

@@ -11,7 +11,7 @@ use Rattle.std.proofs.lemmas.List.Quantifiers.{all_pairs_push}
 use Rattle.std.proofs.lemmas.Option.{slice_get_within}
 use Rattle.std.proofs.lemmas.Slice.Eq.{bytes_eq-Decides}
 use Rattle.re_terms.specs.Trees.{is_name_text}
-use Rattle.re_terms.specs.Cells.{is_cell}
+use Rattle.re_terms.specs.Signal.{is_cell}
 use Rattle.re_terms.specs.Kinds.{Sort, Device, Symbol, is_symbol_sort, sort_of, sorts_of, with_sort, keeps_kinds}
 use Rattle.re_terms.specs.Programs.{is_device, is_symbol, is_replicated, names_of, is_ranged}
 use Rattle.re_terms.specs.declared.program.Decl.{Decl}
@@ -36,7 +36,7 @@ each-push P xs x before last i d e =
       | inr h ↦ subst (λ l. P l d) (sym (ap (λ n. take n (xs ++ x ∷ [])) h.0 ∙ take-append_seam xs (x ∷ []))) (subst (λ y. P xs y) h.1 last)
     ]
 
-count_by-push : {A : Type 0} (p : A → Bool) (xs : List A) (x : A) → count_by p (xs ++ x ∷ []) ≡ count_by p xs + (if p x then 1 else 0)
+pub count_by-push : {A : Type 0} (p : A → Bool) (xs : List A) (x : A) → count_by p (xs ++ x ∷ []) ≡ count_by p xs + (if p x then 1 else 0)
 count_by-push p xs x = sum_by-append (λ y. cond (p y) 1 0) xs (x ∷ []) ∙ ap (λ n. count_by p xs + n) (zero-add (cond (p x) 1 0))
 
 length-push : {A : Type 0} (xs : List A) (x : A) → length (xs ++ x ∷ []) ≡ length xs + 1

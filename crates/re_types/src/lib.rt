@@ -7,13 +7,18 @@ mod exprs;
 mod fault;
 mod kinds;
 mod knowing;
+mod lookup;
 mod names;
+mod parts;
+mod puts;
 mod resolving;
 mod room;
 mod scope;
 mod sort;
 #[cfg(test)]
 mod tests;
+#[cfg(test)]
+mod turn_tests;
 
 pub use admitting::admit;
 pub use fault::{AdmitFault, TypeFault};
