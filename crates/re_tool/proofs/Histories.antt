@@ -51,3 +51,29 @@ settled-taken p w (l ∷ lines) os =
     settled-taken p (line_after p w reading o) lines (others os)
     ∙ ap (λ entries. entries ++ taken p (line_after p w reading o) lines (others os)) (line_entered p w reading o)
     ∙ append_assoc w.settled (entered reading (line_answer p w reading o)) (taken p (line_after p w reading o) lines (others os))
+
+command_base : (p : Program) (w : World) (c : Command) (o : Outcome) → (world_after p w c o).base ≡ w.base
+command_base p w (command.Turn device t) Fine = by (is_full (length w.settled) (last_number w)) refl
+  where
+    by : (b : Bool) → is_full (length w.settled) (last_number w) ≡ b → (world_after p w (command.Turn device t) Fine).base ≡ w.base
+    by true h = rw h refl
+    by false h = rw h refl
+command_base p w (command.Turn device t) Memory = refl
+command_base p w (command.Lazy device t) o = refl
+command_base p w (command.Settle device) o = refl
+command_base p w (command.Get device id) o = refl
+command_base p w (command.Send device) o = refl
+command_base p w (command.Deliver packet device) o = refl
+command_base p w (command.Hex packet) o = refl
+command_base p w (command.Crash device) o = refl
+command_base p w (command.Restart device) o = refl
+
+line_base : (p : Program) (w : World) (l : Reading) (o : Outcome) → (line_after p w l o).base ≡ w.base
+line_base p w (Ok None) o = refl
+line_base p w (Ok (Some c)) o = command_base p w c o
+line_base p w (Err f) o = refl
+
+-- lines leave the state at the start as it was
+pub same_base : (p : Program) (w : World) (lines : List (List ℕ)) (os : List Outcome) → (lines_after p w lines os).base ≡ w.base
+same_base p w [] os = refl
+same_base p w (l ∷ lines) os = same_base p (line_after p w (commanded p l) (first os)) lines (others os) ∙ line_base p w (commanded p l) (first os)

@@ -17,3 +17,4 @@ pub mod Devices
 pub mod Histories
 pub mod Lines
 pub mod Meanings
+pub mod VarWords

@@ -1,0 +1,113 @@
+-- The words of vars, by the entries that set them.
+use Rattle.std.proofs.Common.{ℕ, zero, suc, ◌≡◌, ◌<◌, ◌+◌, cond, Bool, true, false, List, [], ◌∷◌, ◌++◌, length, take, Option, Some, None, unwrap_or, refl, sym, ap, ◌∙◌, arith}
+use Rattle.std.specs.Prelude.{slice_get, slice_index_or, count_by}
+use Rattle.std.specs.List.{filter_map}
+use Rattle.std.proofs.lemmas.List.Sums.{sum_by-cons}
+use Rattle.std.proofs.lemmas.Option.{slice_get_within}
+use Rattle.re_terms.specs.declared.entry.Put.{Put}
+use Rattle.re_terms.specs.declared.program.Body.{Body}
+use Rattle.re_terms.specs.declared.program.Body.TheVariants as body
+use Rattle.re_terms.specs.declared.program.Decl.{Decl}
+use Rattle.re_terms.specs.declared.program.Program.{Program}
+use Rattle.re_terms.specs.declared.word.Kind.{Kind}
+use Rattle.re_terms.specs.declared.word.Word.{Word}
+use Rattle.re_terms.specs.Cells.{is_cell, is_cell_body, cell_place}
+use Rattle.re_terms.specs.Dependencies.{below}
+use Rattle.re_terms.specs.Propagation.{Step, effect, place_effect, no_effect, put_word, words_after}
+use Rattle.re_terms.specs.Runs.{PlainState, PlainEntry, Turn, plain_start, step_of, entry_after, run_entries, start_view}
+use Rattle.re_terms.specs.Shapes.{start_word, start_words}
+use Rattle.re_terms.specs.SignalWords.{no_word, signal_word, place_word}
+use Rattle.re_terms.specs.Views.{View}
+use Rattle.re_terms.specs.Worlds.{World, start_world, world_state}
+use Rattle.re_graph.proofs.Own.{below-own}
+use Rattle.re_prop.proofs.Outcomes.{effect_word}
+use Rattle.re_tool.specs.Histories.{last_set}
+
+-- a var's word is the one that is kept
+var_word : (p : Program) (cells : List Word) (view : View) (id : ℕ) (d : Decl) (kind : Kind) (start : Word) (region : ℕ) → slice_get p.decls.items id ≡ Some d → d.body ≡ body.Var kind start region → signal_word p cells view id ≡ slice_index_or cells (cell_place p.decls.items id) no_word
+var_word p cells view id d kind start region at is =
+    let step : ℕ → (ℕ → Word) → Word = place_word p.decls.items cells view in
+    let own : signal_word p cells view id ≡ step id (below no_word step id) = below-own no_word step (length p.decls.items) id (slice_get_within p.decls.items id d at) in
+    let here : step id (below no_word step id) ≡ slice_index_or cells (cell_place p.decls.items id) no_word = rw (at, is) refl in
+    own ∙ here
+
+-- a turn's effect on a var: the word that it sets, or the word before
+set_word : (p : Program) (s : Step) (id : ℕ) (d : Decl) (kind : Kind) (start : Word) (region : ℕ) → slice_get p.decls.items id ≡ Some d → d.body ≡ body.Var kind start region
+    → (effect p s id).word ≡ unwrap_or (put_word s.sets id) (slice_index_or s.words (cell_place p.decls.items id) no_word)
+set_word p s id d kind start region at is =
+    let own = below-own no_effect (place_effect p s) (length p.decls.items) id (slice_get_within p.decls.items id d at) in
+    let here : (place_effect p s id (below no_effect (place_effect p s) id)).word ≡ unwrap_or (put_word s.sets id) (slice_index_or s.words (cell_place p.decls.items id) no_word) = rw (at, is) refl in
+    ap (λ e. e.word) own ∙ here
+
+module _ (p : Program) (id : ℕ) (d : Decl) (kind : Kind) (start : Word) (region : ℕ) (at : slice_get p.decls.items id ≡ Some d) (is : d.body ≡ body.Var kind start region) where
+  word_in : List Word → Word
+  word_in words = signal_word p words (start_view p) id
+
+  one_entry : (s : PlainState) (sets fires : List Put) → signal_word p (entry_after p s (Turn sets fires)).words (start_view p) id ≡ unwrap_or (put_word sets id) (signal_word p s.words (start_view p) id)
+  one_entry s sets fires =
+      let step = step_of p s.words sets fires in
+      sym (effect_word p step id) ∙ set_word p step id d kind start region at is
+      ∙ ap (unwrap_or (put_word sets id)) (sym (var_word p s.words (start_view p) id d kind start region at is))
+
+  -- the word behind the entries is that of the last that sets the var
+  pub run_word : (s : PlainState) (entries : List PlainEntry) → signal_word p (run_entries p s entries).words (start_view p) id ≡ last_set entries id (signal_word p s.words (start_view p) id)
+  run_word s [] = refl
+  run_word s (Turn sets fires ∷ entries) = run_word (entry_after p s (Turn sets fires)) entries ∙ ap (last_set entries id) (one_entry s sets fires)
+
+-- ---- start words
+
+starts_after : (o : Option Word) (words : List Word) → List Word
+starts_after None words = words
+starts_after (Some w) words = w ∷ words
+
+start_is : (b : Body) → (is_cell_body b ≡ true) → (w : Word) × (start_word b ≡ Some w)
+start_is body.Device h = absurd (cc)
+start_is body.Symbol h = absurd (cc)
+start_is (body.Var kind start region) h = (start, refl)
+start_is (body.Event kind) h = absurd (cc)
+start_is (body.Signal kind expr) h = absurd (cc)
+start_is (body.Changed of) h = absurd (cc)
+start_is (body.Map source kind expr) h = absurd (cc)
+start_is (body.Filter source expr) h = absurd (cc)
+start_is (body.Either left right) h = absurd (cc)
+start_is (body.Fold kind start source expr region) h = (start, refl)
+start_is body.Counter h = absurd (cc)
+start_is (body.Set kind) h = absurd (cc)
+start_is (body.Register kind start) h = absurd (cc)
+
+no_start : (b : Body) → is_cell_body b ≡ false → start_word b ≡ None
+no_start body.Device h = refl
+no_start body.Symbol h = refl
+no_start (body.Var kind start region) h = absurd (cc)
+no_start (body.Event kind) h = refl
+no_start (body.Signal kind expr) h = refl
+no_start (body.Changed of) h = refl
+no_start (body.Map source kind expr) h = refl
+no_start (body.Filter source expr) h = refl
+no_start (body.Either left right) h = refl
+no_start (body.Fold kind start source expr region) h = absurd (cc)
+no_start body.Counter h = refl
+no_start (body.Set kind) h = refl
+no_start (body.Register kind start) h = refl
+
+place-more : (d : Decl) (decls : List Decl) (id : ℕ) → cell_place (d ∷ decls) (suc id) ≡ cond (is_cell d) 1 0 + cell_place decls id
+place-more d decls id = sum_by-cons (λ x. cond (is_cell x) 1 0) d (take id decls)
+
+start_at : (decls : List Decl) (id : ℕ) (d : Decl) (w : Word) → slice_get decls id ≡ Some d → start_word d.body ≡ Some w → slice_index_or (start_words decls) (cell_place decls id) no_word ≡ w
+start_at [] id d w at is = absurd (cc)
+start_at (x ∷ decls) zero d w at is =
+    let same : x ≡ d = cc in
+    let e : start_word x.body ≡ Some w = ap (λ (y : Decl). start_word y.body) same ∙ is in
+    rw e refl
+start_at (x ∷ decls) (suc id) d w at is = by (is_cell x) refl
+  where
+    by : (b : Bool) → is_cell x ≡ b → slice_index_or (start_words (x ∷ decls)) (cell_place (x ∷ decls) (suc id)) no_word ≡ w
+    by true cell =
+        let s = start_is x.body cell in
+        rw (s.1, place-more x decls id, cell) (start_at decls id d w at is)
+    by false cell = rw (no_start x.body cell, place-more x decls id, cell) (start_at decls id d w at is)
+
+-- a var begins with its start word
+pub start_says : (p : Program) (id : ℕ) (d : Decl) (kind : Kind) (start : Word) (region : ℕ) → slice_get p.decls.items id ≡ Some d → d.body ≡ body.Var kind start region → signal_word p (plain_start p).words (start_view p) id ≡ start
+start_says p id d kind start region at is =
+    var_word p (start_words p.decls.items) (start_view p) id d kind start region at is ∙ start_at p.decls.items id d start at (ap start_word is)
