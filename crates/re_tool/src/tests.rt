@@ -278,8 +278,28 @@ fn programs_are_refused(rt: HostRuntime) -> Result<(), TestFail> {
 #[test]
 fn unexpected_tokens_are_refused(rt: HostRuntime) -> Result<(), TestFail> {
     let alloc = rt.alloc();
-    let cases: [(&[u8], &[u8]); 18] = [
+    let cases: [(&[u8], &[u8]); 32] = [
         (b"x", b"unexpected token at 0"),
+        (b"var x: int = 1 in 0;", b"unexpected token at 18"),
+        (
+            b"fold n: int = 0 on e do self in 5;",
+            b"unexpected token at 32",
+        ),
+        (b"signal s = fault(1000);", b"unexpected token at 17"),
+        (
+            b"signal s = - 9223372036854775809;",
+            b"no token at 13",
+        ),
+        (b"signal s = 1 == 2 == 3;", b"unexpected token at 18"),
+        (b"event e = map(", b"unexpected token at 14"),
+        (b"event e: ", b"unexpected token at 9"),
+        (b"var x: int = -", b"unexpected token at 14"),
+        (b"var x: int = 1 in", b"unexpected token at 17"),
+        (b"fold n: int = 0 on e do", b"unexpected token at 23"),
+        (b"signal s = (1", b"unexpected token at 13"),
+        (b"signal s = recover(1,", b"unexpected token at 21"),
+        (b"signal s = fault(", b"unexpected token at 17"),
+        (b"signal s = has(t, 1", b"unexpected token at 19"),
         (b"device", b"unexpected token at 6"),
         (b"device 1;", b"unexpected token at 7"),
         (b"device a; ;", b"unexpected token at 10"),
@@ -334,6 +354,21 @@ fn sum_of_ones(alloc: Global, terms: usize) -> Result<Vec<u8>, AllocError> {
     Ok(text)
 }
 
+/// What stands before and behind 64 times `+1` in programs whose expressions are too deep, or don't end.
+const DEEP: [(&[u8], &[u8], &[u8]); 3] = [
+    (b"device a;\nsignal s = 1", b"+;", b"unexpected token at 151"),
+    (
+        b"device a; event e: int; fold n: int = 0 on e do self",
+        b";",
+        b"too deep at 48",
+    ),
+    (
+        b"device a; event e: int; event f = map(e, arg",
+        b");",
+        b"too deep at 41",
+    ),
+];
+
 #[test]
 fn limits_on_expressions_hold(rt: HostRuntime) -> Result<(), TestFail> {
     let alloc = rt.alloc();
@@ -345,6 +380,14 @@ fn limits_on_expressions_hold(rt: HostRuntime) -> Result<(), TestFail> {
     assert!(rt; is_ran(&deepest, Status::Done, b""));
     let deep = sum_of_ones(alloc, 65)?;
     assert!(rt; is_refused(&rt, alloc, "run", &deep, b"too deep at 21")?);
+    for (front, back, text) in DEEP {
+        let mut deep = front.to_vec(alloc)?;
+        for _ in 0..64 {
+            deep.extend_from_slice(b"+1")?;
+        }
+        deep.extend_from_slice(back)?;
+        assert!(rt; is_refused(&rt, alloc, "check", &deep, text)?);
+    }
     Ok(())
 }
 
@@ -383,7 +426,19 @@ fn long_and_deep_programs_are_refused(rt: HostRuntime) -> Result<(), TestFail> {
 #[test]
 fn programs_are_checked(rt: HostRuntime) -> Result<(), TestFail> {
     let alloc = rt.alloc();
-    let cases: [(&[u8], &[u8]); 7] = [
+    let cases: [(&[u8], &[u8]); 10] = [
+        (
+            b"device a; var x: int = 9223372036854775807; var y: int = - 9223372036854775808 in 2; var z: int = 0 in 3;",
+            b"device a;\nvar x: int = 9223372036854775807 in 1;\nvar y: int = -9223372036854775808 in 2;\nvar z: int = 0 in 3;\n",
+        ),
+        (
+            b"device a; signal s = fault(999) + 1; signal t = 1 <= 2; signal u = 1 > 2;",
+            b"device a;\nsignal s = (fault(999) + 1);\nsignal t = (1 <= 2);\nsignal u = (1 > 2);\n",
+        ),
+        (
+            b"device a; signal s = 8 / 4 * 2 - 1 + 3; signal t = true or false and true or false;",
+            b"device a;\nsignal s = ((((8 / 4) * 2) - 1) + 3);\nsignal t = ((true or (false and true)) or false);\n",
+        ),
         (
             b"device a; signal s = 1 - 2 - 3; signal t = 1 + 2 * 3 < 4 and true or false; signal u = if true then - 1 else 2 + -0;",
             b"device a;\nsignal s = ((1 - 2) - 3);\nsignal t = ((((1 + (2 * 3)) < 4) and true) or false);\nsignal u = (if true then -1 else (2 + 0));\n",
