@@ -2,6 +2,7 @@ pub mod CapitalNames
 pub mod Conjunctions
 pub mod Declaring
 pub mod NameTables
+pub mod Numbers
 pub mod Operands
 pub mod Outcomes
 pub mod Remaining

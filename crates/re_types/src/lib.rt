@@ -7,6 +7,7 @@ mod exprs;
 mod fault;
 mod kinds;
 mod knowing;
+mod lookup;
 mod names;
 mod resolving;
 mod room;
