@@ -5,5 +5,6 @@ pub mod NameTables
 pub mod Numbers
 pub mod Operands
 pub mod Outcomes
+pub mod PutOrder
 pub mod Remaining
 pub mod Sorts

@@ -9,6 +9,7 @@ mod kinds;
 mod knowing;
 mod lookup;
 mod names;
+mod puts;
 mod resolving;
 mod room;
 mod scope;
