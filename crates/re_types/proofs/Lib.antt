@@ -1,3 +1,4 @@
+pub mod Acts
 pub mod CapitalNames
 pub mod Conjunctions
 pub mod Declaring

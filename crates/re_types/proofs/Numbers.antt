@@ -1,7 +1,8 @@
 -- The numbers of symbols and the places of replicated cells, by how many stand before a declaration.
-use Rattle.std.proofs.Common.{ℕ, zero, suc, ◌≡◌, ◌<◌, ◌+◌, Bool, true, false, cond, if◌then◌else◌, List, [], ◌∷◌, ◌++◌, length, take, drop, Option, Some, None, is_some, unwrap_or, refl, sym, ap, ◌∙◌, arith}
+use Rattle.std.proofs.Common.{ℕ, zero, suc, ◌≡◌, ◌<◌, ◌≤◌, ◌+◌, Bool, true, false, cond, if◌then◌else◌, List, [], ◌∷◌, ◌++◌, length, take, drop, Option, Some, None, is_some, unwrap_or, refl, sym, ap, ◌∙◌, arith}
 use Rattle.std.specs.Prelude.{slice_get, count_by, fold, option_map}
 use Rattle.std.specs.List.{filter_map}
+use Rattle.std.proofs.lemmas.List.{take-append-drop}
 use Rattle.std.proofs.lemmas.List.Sums.{sum_by-append, sum_by-cons}
 use Rattle.std.proofs.lemmas.List.Elements.{filter_map-append}
 use Rattle.re_terms.specs.Kinds.{Sort, Device, Symbol, Value, Set, Event, ◌>>=◌, only_if, kind_eq, is_symbol_sort, is_start, is_of_kind, agrees_with, expr_kind, in_signal, at_event, in_fold, event_kind, value_kind, sort_of, sorts_of, with_sort}
@@ -102,3 +103,10 @@ count_before p decls id d at is =
     let parts : count_by p (take id decls ++ d ∷ drop (suc id) decls) ≡ count_by p (take id decls) + (cond (p d) 1 0 + count_by p (drop (suc id) decls)) = sum_by-append (λ x. cond (p x) 1 0) (take id decls) (d ∷ drop (suc id) decls) ∙ ap (λ n. count_by p (take id decls) + n) (sum_by-cons (λ x. cond (p x) 1 0) d (drop (suc id) decls)) in
     let one : ◌≡◌ {A = ℕ} (cond (p d) 1 0) 1 = ap (λ b. cond b 1 0) is in
     omega (arith, all, parts, one)
+
+-- and no more before any place
+pub count_first : (p : Decl → Bool) (decls : List Decl) (id : ℕ) → count_by p (take id decls) ≤ count_by p decls
+count_first p decls id =
+    let all : count_by p (take id decls ++ drop id decls) ≡ count_by p decls = ap (count_by p) (take-append-drop id decls) in
+    let parts : count_by p (take id decls ++ drop id decls) ≡ count_by p (take id decls) + count_by p (drop id decls) = sum_by-append (λ x. cond (p x) 1 0) (take id decls) (drop id decls) in
+    omega (arith, all, parts)

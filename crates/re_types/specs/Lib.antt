@@ -1,5 +1,6 @@
 pub mod Admitting
 pub mod Capitals
+pub mod Parts
 pub mod PutOrder
 pub mod Resolving
 pub mod Scopes

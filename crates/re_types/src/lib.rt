@@ -9,6 +9,7 @@ mod kinds;
 mod knowing;
 mod lookup;
 mod names;
+mod parts;
 mod puts;
 mod resolving;
 mod room;

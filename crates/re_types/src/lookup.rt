@@ -1,8 +1,9 @@
 //! Looks names up among the declarations of a program.
-ghost use Rattle.std.specs.Prelude.{◌≡◌, ◌≤◌, ◌<◌, true, length, slice_get, IfSome};
+ghost use Rattle.std.specs.Prelude.{◌≡◌, ◌≤◌, ◌<◌, true, length, slice_get, count_by, IfSome};
 ghost use Rattle.std.specs.Str.{bytes_eq};
 ghost use Rattle.re_terms.specs.Kinds.{sorts_of};
-ghost use Rattle.re_terms.specs.Programs.{names_of, is_symbol as declares_symbol, is_literal_word};
+ghost use Rattle.re_terms.specs.Programs.{names_of, is_symbol as declares_symbol, is_replicated as declares_replicated, is_literal_word};
+ghost use Rattle.re_terms.specs.SignalWords.{replicated_place};
 ghost use Rattle.re_terms.specs.Admission.{symbol_count};
 ghost use Rattle.re_types.specs.Resolving.{place_of, is_known, knows_literal as literal_is_known, symbol_of, scope_of, start_word};
 
@@ -16,7 +17,8 @@ fn has_name(decl: &Decl, name: &Text) -> bool
 
 /// The place of the declaration with this name.
 pub fn place(decls: &[Decl], name: &Text) -> Option<usize>
-    ensures { result ≡ place_of (names_of decls.now) name.now.items }
+    ensures place { result ≡ place_of (names_of decls.now) name.now.items }
+    ensures within { IfSome result (λ i. i < length decls.now) }
 {
     decls.iter().position(|decl| has_name(decl, name))
 }
@@ -75,4 +77,23 @@ pub fn literal_word(decls: &[Decl], literal: &RawLit) -> Option<Word>
             symbol(decls, place).map(Word::Sym)
         }
     }
+}
+
+fn is_replicated(decl: &Decl) -> bool
+    ensures { result ≡ declares_replicated decl.now }
+{
+    match decl.body {
+        Body::Counter | Body::Set { .. } | Body::Register { .. } => true,
+        _ => false,
+    }
+}
+
+/// How many replicated cells stand before this place.
+pub fn cell(decls: &[Decl], place: usize) -> u8
+    requires few { count_by declares_replicated decls.now ≤ 32 }
+    requires within { place < length decls.now }
+    ensures { result ≡ replicated_place decls.now place }
+{
+    let before = decls[..place].iter().filter(|decl| is_replicated(decl)).count();
+    before as u8
 }
