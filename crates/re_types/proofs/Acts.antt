@@ -1,5 +1,5 @@
 -- Which acts a replicated cell takes.
-use Rattle.std.proofs.Common.{ℕ, ◌≡◌, Bool, true, false, Option, Some, None, refl, sym, ap, ◌∙◌}
+use Rattle.std.proofs.Common.{ℕ, ◌≡◌, true, false, Option, Some, None, refl, sym, ap, ◌∙◌}
 use Rattle.re_terms.specs.Layouts.{layout_of, is_allowed}
 use Rattle.re_terms.specs.Programs.{is_literal_word}
 use Rattle.re_terms.specs.Shapes.{is_word_of}

@@ -9,3 +9,4 @@ pub mod Outcomes
 pub mod PutOrder
 pub mod Remaining
 pub mod Sorts
+pub mod Turns

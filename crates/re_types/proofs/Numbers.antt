@@ -1,15 +1,10 @@
 -- The numbers of symbols and the places of replicated cells, by how many stand before a declaration.
-use Rattle.std.proofs.Common.{ℕ, zero, suc, ◌≡◌, ◌<◌, ◌≤◌, ◌+◌, Bool, true, false, cond, if◌then◌else◌, List, [], ◌∷◌, ◌++◌, length, take, drop, Option, Some, None, is_some, unwrap_or, refl, sym, ap, ◌∙◌, arith}
+use Rattle.std.proofs.Common.{ℕ, suc, ◌≡◌, ◌<◌, ◌≤◌, ◌+◌, Bool, true, false, cond, if◌then◌else◌, List, [], ◌∷◌, ◌++◌, take, drop, Option, Some, None, unwrap_or, refl, ap, ◌∙◌, arith}
 use Rattle.std.specs.Prelude.{slice_get, count_by, fold, option_map}
-use Rattle.std.specs.List.{filter_map}
 use Rattle.std.proofs.lemmas.List.{take-append-drop}
 use Rattle.std.proofs.lemmas.List.Sums.{sum_by-append, sum_by-cons}
-use Rattle.std.proofs.lemmas.List.Elements.{filter_map-append}
-use Rattle.re_terms.specs.Kinds.{Sort, Device, Symbol, Value, Set, Event, ◌>>=◌, only_if, kind_eq, is_symbol_sort, is_start, is_of_kind, agrees_with, expr_kind, in_signal, at_event, in_fold, event_kind, value_kind, sort_of, sorts_of, with_sort}
-use Rattle.re_terms.specs.Programs.{is_symbol_body, is_symbol, is_replicated}
-use Rattle.re_terms.specs.Shapes.{replicated_kind, replicated_kinds}
-use Rattle.re_terms.specs.SignalWords.{replicated_place}
-use Rattle.re_terms.specs.declared.replicated.RKind.{RKind}
+use Rattle.re_terms.specs.Kinds.{Sort, Device, Symbol, Value, Set, Event, ◌>>=◌, only_if, kind_eq, is_symbol_sort, is_start, is_of_kind, expr_kind, in_signal, at_event, event_kind, value_kind, sort_of, sorts_of, with_sort}
+use Rattle.re_terms.specs.Programs.{is_symbol_body, is_symbol}
 use Rattle.re_terms.specs.declared.program.Body.{Body}
 use Rattle.re_terms.specs.declared.program.Body.TheVariants as body
 use Rattle.re_terms.specs.declared.program.Decl.{Decl}

@@ -1,6 +1,8 @@
 -- Parts of a turn over ids.
 -- Read against: `add c 1` is an operation that sets no var and fires no event.
-use Rattle.std.specs.Prelude.{ℕ, Bool, Option, None, Some}
+use Rattle.std.specs.Prelude.{ℕ, ◌-◌, ◌++◌, ◌∷◌, [], List, Bool, Option, None, Some}
+use Rattle.std.specs.List.{filter_map}
+use Rattle.re_terms.specs.Listed.{Listed, plain}
 use Rattle.re_terms.specs.Arithmetic.{is_word_number}
 use Rattle.re_terms.specs.Programs.{is_literal_word}
 use Rattle.re_terms.specs.declared.word.Word.{Word}
@@ -11,6 +13,10 @@ use Rattle.re_terms.specs.declared.replicated.Act.TheVariants as act
 use Rattle.re_terms.specs.declared.replicated.Layout.{Layout}
 use Rattle.re_terms.specs.declared.replicated.Layout.TheVariants as layout
 use Rattle.re_terms.specs.declared.replicated.RepOp.{RepOp}
+use Rattle.re_terms.specs.declared.entry.Turn.{Turn}
+use Rattle.re_terms.specs.declared.program.Decl.{Decl}
+use Rattle.re_terms.specs.declared.raw.RawPart.{RawPart}
+use Rattle.re_types.specs.Admitting.{sets_of, fires_of, act_of}
 use Rattle.re_types.specs.declared.parts.Part.{Part}
 use Rattle.re_types.specs.declared.parts.Part.TheVariants as part
 
@@ -48,3 +54,21 @@ fire_in p = None
 abbrev pub operation_in : Option Part → Option RepOp
 operation_in (Some (part.Operation op)) = Some op
 operation_in p = None
+
+-- one more at the end of a list
+abbrev pub pushed : {T : Type 0} → Listed T → T → Listed T
+pushed xs x = record { items = xs.items ++ x ∷ []; spare = xs.spare - 1 }
+
+-- a turn with one part more
+abbrev pub with_part : Turn → Part → Turn
+with_part t (part.Set put) = record t { sets = pushed t.sets put }
+with_part t (part.Fire put) = record t { fires = pushed t.fires put }
+with_part t (part.Operation op) = record t { ops = pushed t.ops op }
+
+-- what these parts mean, in their order
+abbrev pub turn_in_order : List Decl → List RawPart → Turn
+turn_in_order decls parts = record {
+  sets = plain (sets_of decls parts);
+  fires = plain (fires_of decls parts);
+  ops = plain (filter_map (act_of decls) parts);
+}

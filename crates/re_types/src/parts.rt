@@ -1,5 +1,6 @@
 //! Parts of a turn: whether their names are declared, and what they are over ids.
 ghost use Rattle.std.specs.Prelude.{◌≡◌, ◌≤◌, ℕ, true, length, count_by, IfSome};
+ghost use Rattle.std.specs.List.{list_all};
 ghost use Rattle.re_terms.specs.Programs.{names_of, is_replicated, is_literal_word};
 ghost use Rattle.re_terms.specs.Shapes.{is_word_of};
 ghost use Rattle.re_terms.specs.Admission.{symbol_count, var_kind as kind_of_var, source_kind as kind_of_source, is_act_of};
@@ -21,7 +22,7 @@ pub enum Part {
 }
 
 /// Whether the part's name is declared, and a name that stands as its literal.
-pub fn knows_part(decls: &[Decl], part: &RawPart) -> bool
+fn knows_part(decls: &[Decl], part: &RawPart) -> bool
     ensures { result ≡ part_is_known (names_of decls.now) part.now }
 {
     match part {
@@ -32,6 +33,13 @@ pub fn knows_part(decls: &[Decl], part: &RawPart) -> bool
         | RawPart::Write { name, lit } => knows(decls, name) && knows_literal(decls, lit),
         RawPart::Add { name, .. } => knows(decls, name),
     }
+}
+
+/// Whether all names in the parts are declared.
+pub fn know_parts(decls: &[Decl], parts: &[RawPart]) -> bool
+    ensures { result ≡ list_all (part_is_known (names_of decls.now)) parts.now }
+{
+    parts.iter().all(|part| knows_part(decls, part))
 }
 
 /// Whether a literal's word is of this kind.

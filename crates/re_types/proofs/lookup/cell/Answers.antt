@@ -1,4 +1,4 @@
-use Rattle.std.proofs.Common.{rules, ◌≡◌, ◌≤◌, take, arith}
+use Rattle.std.proofs.Common.{rules, ◌≡◌, take, arith}
 use Rattle.std.specs.Prelude.{count_by}
 use Rattle.re_terms.specs.Programs.{is_replicated}
 use Rattle.re_types.proofs.Numbers.{count_first}
