@@ -55,9 +55,9 @@ from-only_if false x y e = absurd (cc)
 put_of-is : (kind_of : Body → Option Kind) (decls : List Decl) (name : Listed ℕ) (lit : RawLit) (put : Put) → put_of kind_of decls name lit ≡ Some put → is_put_of kind_of decls put ≡ true
 put_of-is kind_of decls name lit put e =
     from-bind (place_of (names_of decls) name.items) _ put (is_put_of kind_of decls put ≡ true) (λ id _ f.
-        from-bind (start_word (scope_of decls) lit) _ put (is_put_of kind_of decls put ≡ true) (λ w _ g.
-            let parts = from-only_if (is_put_of kind_of decls (put_on id w)) (put_on id w) put g in
-            ap (is_put_of kind_of decls) (sym parts.1) ∙ parts.0) f) e
+    from-bind (start_word (scope_of decls) lit) _ put (is_put_of kind_of decls put ≡ true) (λ w _ g.
+    let parts = from-only_if (is_put_of kind_of decls (put_on id w)) (put_on id w) put g in
+    ap (is_put_of kind_of decls) (sym parts.1) ∙ parts.0) f) e
 
 -- a declaration is a replicated cell exactly where it has such a kind
 kind-replicated : (b : Body) → is_some (replicated_kind b) ≡ is_replicated_body b
@@ -97,20 +97,20 @@ replicated-at decls id d k at is =
     let first = replicated_kinds (take id decls) in
     let rest = replicated_kinds (drop (suc id) decls) in
     let whole : replicated_kinds decls ≡ first ++ k ∷ rest =
-        ap replicated_kinds (split_at decls id d at) ∙ filter_map-append (λ (x : Decl). replicated_kind x.body) (take id decls) (d ∷ drop (suc id) decls) ∙ ap (λ o. first ++ cons_option o rest) is in
+    ap replicated_kinds (split_at decls id d at) ∙ filter_map-append (λ (x : Decl). replicated_kind x.body) (take id decls) (d ∷ drop (suc id) decls) ∙ ap (λ o. first ++ cons_option o rest) is in
     ap (λ kinds. slice_get kinds (replicated_place decls id)) whole ∙ ap (slice_get (first ++ k ∷ rest)) (sym (kinds-count (take id decls))) ∙ slice_get-between first k rest
 
 operation_of-is : (decls : List Decl) (name : Listed ℕ) (a : Option Act) (op : RepOp) → operation_of decls name a ≡ Some op → is_operation_of decls op ≡ true
 operation_of-is decls name a op e =
     let P : Type 0 = is_operation_of decls op ≡ true in
     from-bind (place_of (names_of decls) name.items) _ op P (λ id _ f.
-        from-bind (slice_get decls id) _ op P (λ d at g.
-            from-bind (replicated_kind d.body) _ op P (λ k is h.
-                from-bind a _ op P (λ v _ i.
-                    let own : RepOp = record { cell = replicated_place decls id; act = v } in
-                    let parts = from-only_if (is_act_of (symbol_count decls) k v) own op i in
-                    let found = ap (λ o. option_map_or (λ j. is_act_of (symbol_count decls) j v) o false) (replicated-at decls id d k at is) in
-                    ap (is_operation_of decls) (sym parts.1) ∙ found ∙ parts.0) h) g) f) e
+    from-bind (slice_get decls id) _ op P (λ d at g.
+    from-bind (replicated_kind d.body) _ op P (λ k is h.
+    from-bind a _ op P (λ v _ i.
+    let own : RepOp = record { cell = replicated_place decls id; act = v } in
+    let parts = from-only_if (is_act_of (symbol_count decls) k v) own op i in
+    let found = ap (λ o. option_map_or (λ j. is_act_of (symbol_count decls) j v) o false) (replicated-at decls id d k at is) in
+    ap (is_operation_of decls) (sym parts.1) ∙ found ∙ parts.0) h) g) f) e
 
 set_of-is : (decls : List Decl) (x : RawPart) (put : Put) → set_of decls x ≡ Some put → is_put_of var_kind decls put ≡ true
 set_of-is decls (raw.Put name lit) put e = put_of-is var_kind decls name lit put e
@@ -291,9 +291,10 @@ pub next-part : (decls : List Decl) (parts : List RawPart) (i : ℕ) (x : RawPar
     → (new ≡ turn_in_order decls (take (i + 1) parts)) × (list_all (keeps_kind decls) (take (i + 1) parts) ≡ true)
 next-part decls parts i x p old new within is s f a turn kinds e =
     let more : take (i + 1) parts ≡ take i parts ++ x ∷ [] = take_more parts i x within ∙ ap (λ y. take i parts ++ y ∷ []) (sym is) in
-    let keeps : keeps_kind decls (get_or parts i x) ≡ true = ap (keeps_kind decls) (sym is) ∙ keeps-some decls x p s f a in
-    (e ∙ ap (λ t. with_part t p) turn ∙ push-part decls (take i parts) x p s f a ∙ ap (turn_in_order decls) (sym more),
-     list_all_more (keeps_kind decls) parts i x within ∙ rw (kinds, keeps) refl)
+    let keeps : keeps_kind decls (get_or parts i x) ≡ true = ap (keeps_kind decls) (sym is) ∙ keeps-some decls x p s f a in (
+      e ∙ ap (λ t. with_part t p) turn ∙ push-part decls (take i parts) x p s f a ∙ ap (turn_in_order decls) (sym more),
+      list_all_more (keeps_kind decls) parts i x within ∙ rw (kinds, keeps) refl,
+    )
 
 -- where nothing stands twice
 pub are_ordered : (decls kept : List Decl) (parts : List RawPart) (t : Turn) (seen_sets seen_fires : List Put) (sets fires : Listed Put) → kept ≡ decls

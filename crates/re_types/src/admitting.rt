@@ -26,11 +26,7 @@ fn push(turn: &mut Turn, part: Part) -> Result<(), AllocError>
 }
 
 /// What the parts mean, in their order. `Kind` where one is of wrong kind.
-fn resolved_parts(
-    alloc: Global,
-    decls: &[Decl],
-    parts: &[RawPart],
-) -> Result<Turn, AdmitFault>
+fn resolved_parts(alloc: Global, decls: &[Decl], parts: &[RawPart]) -> Result<Turn, AdmitFault>
     requires few { length decls.now ≤ 512 }
     requires replicated { count_by is_replicated decls.now ≤ 32 }
     ensures turn { IfOk result (λ t. t ≡ turn_in_order decls.now parts.now) }
