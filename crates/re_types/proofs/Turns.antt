@@ -1,7 +1,7 @@
 -- What parts mean: the turn where no fault holds, and that a program allows it.
 use Rattle.std.proofs.Common.{ℕ, zero, suc, ◌≡◌, ◌≢◌, ◌<◌, ◌≤◌, ◌+◌, ◌==◌, ◌||◌, Bool, true, false, cond, if◌then◌else◌, List, [], ◌∷◌, ◌++◌, length, take, drop, get_or, nat_lt, Option, Some, None, is_some, Result, Ok, Err, refl, sym, ap, subst, ◌∙◌, arith}
 use Rattle.std.specs.Prelude.{slice_get, count_by, option_map}
-use Rattle.std.specs.List.{filter_map, cons_option, list_all}
+use Rattle.std.specs.List.{filter_map, cons_option, list_all, list_any}
 use Rattle.std.specs.Option.{option_map_or}
 use Rattle.std.proofs.lemmas.Bool.{lt-ltb}
 use Rattle.std.proofs.lemmas.List.{append-nil, take_more}
@@ -32,7 +32,7 @@ use Rattle.re_terms.specs.declared.raw_expr.RawLit.{RawLit}
 use Rattle.re_terms.specs.declared.raw.RawPart.{RawPart}
 use Rattle.re_terms.specs.declared.raw.RawPart.TheVariants as raw
 use Rattle.re_types.specs.Resolving.{place_of, scope_of, start_word}
-use Rattle.re_types.specs.Admitting.{knows_part, put_on, put_of, operation_of, set_of, fire_of, act_of, keeps_kind, sets_of, fires_of, is_twice, by_id, turn_of, turn_or_fault}
+use Rattle.re_types.specs.Admitting.{knows_part, put_on, put_of, operation_of, set_of, fire_of, act_of, keeps_kind, sets_of, fires_of, some_set, some_fire, is_twice, by_id, turn_of, turn_or_fault}
 use Rattle.re_types.specs.Parts.{set_in, fire_in, operation_in, with_part, turn_in_order}
 use Rattle.re_types.specs.PutOrder.{IsOrderOf}
 use Rattle.re_types.specs.declared.parts.Part.{Part}
@@ -144,6 +144,14 @@ all-filter_map : {A B : Type 0} (p : B → Bool) (h : A → Option B) (xs : List
 all-filter_map p h [] each = refl
 all-filter_map p h (x ∷ xs) each = all-cons_option p (h x) (filter_map h xs) (each x) (all-filter_map p h xs each)
 
+any-cons_option : {A : Type 0} (p : A → Bool) (o : Option A) (xs : List A) → list_any p (cons_option o xs) ≡ (option_map_or p o false || list_any p xs)
+any-cons_option p (Some x) xs = refl
+any-cons_option p None xs = refl
+
+any-filter_map : {A B : Type 0} (p : B → Bool) (h : A → Option B) (xs : List A) → list_any p (filter_map h xs) ≡ list_any (λ x. option_map_or p (h x) false) xs
+any-filter_map p h [] = refl
+any-filter_map p h (x ∷ xs) = any-cons_option p (h x) (filter_map h xs) ∙ ap (λ b. option_map_or p (h x) false || b) (any-filter_map p h xs)
+
 all-weaker : {A : Type 0} (p q : A → Bool) (xs : List A) → ((x : A) → p x ≡ true → q x ≡ true) → list_all p xs ≡ true → list_all q xs ≡ true
 all-weaker p q [] h all = refl
 all-weaker p q (x ∷ xs) h all =
@@ -231,6 +239,13 @@ turn_admitted p parts t o some few =
       some = omega (arith, sets, fires, count, lengths, some);
       few = omega (arith, sets, fires, count, lengths, few);
     }
+
+-- its puts are those of the parts
+pub turn_sets : (decls : List Decl) (parts : List RawPart) (t : Turn) → AreOrdered decls parts t → (test : Put → Bool) → list_any test t.sets.items ≡ some_set decls test parts
+turn_sets decls parts t o test = o.sets.any test ∙ any-filter_map test (set_of decls) parts
+
+pub turn_fires : (decls : List Decl) (parts : List RawPart) (t : Turn) → AreOrdered decls parts t → (test : Put → Bool) → list_any test t.fires.items ≡ some_fire decls test parts
+turn_fires decls parts t o test = o.fires.any test ∙ any-filter_map test (fire_of decls) parts
 
 -- the faults, each where those before it don't hold
 pub kind-fault : (decls : List Decl) (parts : List RawPart) → list_all (knows_part (names_of decls)) parts ≡ true → list_all (keeps_kind decls) parts ≡ false → turn_or_fault decls parts ≡ Err fault.Kind

@@ -5,7 +5,7 @@ use Rattle.re_terms.specs.Programs.{names_of}
 use Rattle.re_terms.specs.declared.entry.Turn.{Turn}
 use Rattle.re_types.specs.Admitting.{knows_part, keeps_kind, is_twice, sets_of, fires_of}
 use Rattle.re_types.specs.declared.fault.AdmitFault.TheVariants as fault
-use Rattle.re_types.proofs.Turns.{are_ordered, not_empty, refused, kind-fault, twice-set, twice-fired, many-fault, turn-answer, turn_admitted}
+use Rattle.re_types.proofs.Turns.{are_ordered, not_empty, refused, kind-fault, twice-set, twice-fired, many-fault, turn-answer, turn_admitted, turn_sets, turn_fires}
 use Rattle.re_types.proofs.admitting.admit_parts.Goals as goal
 
 pub returns-in_err-sets-clause-answer : goal.returns-in_err-sets-clause-answer
@@ -66,3 +66,21 @@ returns-clause-admitted c =
     let ordered = are_ordered decls c.as_slice-decls.result.now parts c.in_ok-sets.field-0 c.as_slice.result.now c.as_slice-2.result.now c.in_ok-sets-2.sets c.in_ok-fires.fires
     c.as_slice-decls.ensures known c.in_ok-sets.ensures.kinds c.in_ok-sets.ensures.turn c.as_slice.ensures c.as_slice-2.ensures c.in_ok-sets-2.ensures.order c.in_ok-fires.ensures.order in
     turn_admitted c.args.p.now parts _ ordered (not_empty (length parts) (sym c.is_empty.ensures ∙ c.if-is_empty.false)) c.if-parts-gt-MAX_PARTS.false
+
+pub returns-clause-sets : goal.returns-clause-sets
+returns-clause-sets c =
+    let decls = c.args.p.now.decls.items in
+    let parts = c.args.parts.now in
+    let known : list_all (knows_part (names_of decls)) parts ≡ true = search rules in
+    let ordered = are_ordered decls c.as_slice-decls.result.now parts c.in_ok-sets.field-0 c.as_slice.result.now c.as_slice-2.result.now c.in_ok-sets-2.sets c.in_ok-fires.fires
+    c.as_slice-decls.ensures known c.in_ok-sets.ensures.kinds c.in_ok-sets.ensures.turn c.as_slice.ensures c.as_slice-2.ensures c.in_ok-sets-2.ensures.order c.in_ok-fires.ensures.order in
+    turn_sets decls parts _ ordered
+
+pub returns-clause-fires : goal.returns-clause-fires
+returns-clause-fires c =
+    let decls = c.args.p.now.decls.items in
+    let parts = c.args.parts.now in
+    let known : list_all (knows_part (names_of decls)) parts ≡ true = search rules in
+    let ordered = are_ordered decls c.as_slice-decls.result.now parts c.in_ok-sets.field-0 c.as_slice.result.now c.as_slice-2.result.now c.in_ok-sets-2.sets c.in_ok-fires.fires
+    c.as_slice-decls.ensures known c.in_ok-sets.ensures.kinds c.in_ok-sets.ensures.turn c.as_slice.ensures c.as_slice-2.ensures c.in_ok-sets-2.ensures.order c.in_ok-fires.ensures.order in
+    turn_fires decls parts _ ordered
