@@ -257,9 +257,6 @@ twice-set decls parts known kinds twice = rw (known, kinds, twice) refl
 pub twice-fired : (decls : List Decl) (parts : List RawPart) → list_all (knows_part (names_of decls)) parts ≡ true → list_all (keeps_kind decls) parts ≡ true → is_twice (sets_of decls parts) ≡ false → is_twice (fires_of decls parts) ≡ true → turn_or_fault decls parts ≡ Err fault.Twice
 twice-fired decls parts known kinds once twice = rw (known, kinds, once, twice) refl
 
-pub empty-fault : (decls : List Decl) (parts : List RawPart) (t : Turn) → AreOrdered decls parts t → (length parts == 0) ≡ true → turn_or_fault decls parts ≡ Err fault.Empty
-empty-fault decls parts t o none = rw (o.known, o.kinds, o.sets.once, o.fires.once, none) refl
-
 pub many-fault : (decls : List Decl) (parts : List RawPart) (t : Turn) → AreOrdered decls parts t → (length parts == 0) ≡ false → nat_lt 64 (length parts) ≡ true → turn_or_fault decls parts ≡ Err fault.TooMany
 many-fault decls parts t o some many = rw (o.known, o.kinds, o.sets.once, o.fires.once, some, many) refl
 
