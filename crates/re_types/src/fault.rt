@@ -1,4 +1,4 @@
-//! Why a tree is no program.
+//! Why a tree is no program, and parts no turn.
 use std::alloc::AllocError;
 use thiserror::Error;
 
@@ -33,5 +33,39 @@ impl From<AllocError> for TypeFault {
 
     fn from(_error: AllocError) -> TypeFault {
         TypeFault::Memory
+    }
+}
+
+/// Why parts are no turn of a program: the first of these that holds of them anywhere.
+#[derive(Clone, Copy, Debug, PartialEq, Eq, Error)]
+pub enum AdmitFault {
+    /// Memory ran out.
+    #[error("memory ran out")]
+    Memory,
+    /// A name isn't declared.
+    #[error("a name isn't declared")]
+    Unknown,
+    /// A part's name is of another sort than the part takes, or its literal of another kind.
+    #[error("a part is of a wrong kind")]
+    Kind,
+    /// One var is set twice, or one event fired twice.
+    #[error("a var is set twice, or an event fired twice")]
+    Twice,
+    /// There are no parts.
+    #[error("the turn has no parts")]
+    Empty,
+    /// There are over 64 parts.
+    #[error("the turn has over 64 parts")]
+    TooMany,
+}
+
+impl From<AllocError> for AdmitFault {
+    ghost use Rattle.std.specs.Prelude.{◌≡◌};
+    ghost use Rattle.re_types.specs.declared.fault.AdmitFault.TheVariants.{Memory};
+
+    ghost from_gives = { λ _ fault. fault ≡ Memory };
+
+    fn from(_error: AllocError) -> AdmitFault {
+        AdmitFault::Memory
     }
 }
