@@ -1,6 +1,6 @@
 -- What one entry does along the declarations.
 -- Read against: with `var x: int = 1; signal p = x + 1; signal q = x * 2; signal r = p + q; event e = changed(r); fold n: int = 0 on e do self + 1;`
--- a turn that sets x to 5 gives r the word 16, e occurs with it, and n becomes 1; a turn that sets x to 1 again changes nothing.
+-- a first turn that sets x to 5 gives r the word 16, e occurs with it, and n becomes 1; a first turn that sets x to 1 changes nothing.
 use Rattle.std.specs.Prelude.{ℕ, ◌==◌, ◌&&◌, Bool, true, false, not, List, [], ◌∷◌, Option, None, Some, option_map, option_and_then, unwrap_or, if◌then◌else◌, map, filter, length, slice_get, slice_index_or}
 use Rattle.std.specs.Option.{option_map_or}
 use Rattle.std.specs.List.{range_with_len}
@@ -26,7 +26,7 @@ use Rattle.re_terms.specs.WordOrder.{same_word}
 pub record Step : Type 0 where
   -- the words of vars and folds before it, in order of declaration
   pub words : List Word
-  -- the replicated cells before it and behind it
+  -- the replicated cells before it and after it
   pub old_view : View
   pub new_view : View
   -- the vars that it sets and the source events that it fires
@@ -42,11 +42,11 @@ abbrev pub fires_of : Entry → List Put
 fires_of (entry.Turn t) = t.fires.items
 fires_of (entry.Merge r) = []
 
--- what stands before an entry in this state, and what the entry brings, where the replicated state is this one behind it
+-- what stands before an entry in this state, and what the entry brings, where the replicated state is this one after it
 abbrev pub step_in : State → Entry → RState → Step
-step_in s e behind = record { words = s.words.items; old_view = view_of s.rep; new_view = view_of behind; sets = sets_of e; fires = fires_of e }
+step_in s e after = record { words = s.words.items; old_view = view_of s.rep; new_view = view_of after; sets = sets_of e; fires = fires_of e }
 
--- what a declaration has behind an entry: its word, and its value where it is an event that occurs
+-- what a declaration has after an entry: its word, and its value where it is an event that occurs
 pub record Effect : Type 0 where
   pub word : Word
   pub occurrence : Option Word
@@ -55,8 +55,8 @@ abbrev pub no_effect : Effect
 no_effect = record { word = no_word; occurrence = None }
 
 -- a name with this word
-abbrev pub has_word : Word → Effect
-has_word w = record { word = w; occurrence = None }
+abbrev pub word_effect : Word → Effect
+word_effect w = record { word = w; occurrence = None }
 
 -- an event that occurs with this value, if any
 abbrev pub occurs : Option Word → Effect
@@ -96,12 +96,12 @@ body_effect p s id b earlier = by_body b
     kept = slice_index_or s.words (cell_place decls id) no_word
 
     by_body : Body → Effect
-    by_body (body.Var kind start region) = has_word (unwrap_or (put_word s.sets id) kept)
-    by_body (body.Signal kind expr) = has_word (meaning expr (names_environment decls s.new_view words None None))
+    by_body (body.Var kind start region) = word_effect (unwrap_or (put_word s.sets id) kept)
+    by_body (body.Signal kind expr) = word_effect (meaning expr (names_environment decls s.new_view words None None))
     by_body (body.Fold kind start source expr region) =
-        has_word (option_map_or (λ value. meaning expr (names_environment decls s.new_view words (Some value) (Some kept))) (earlier source).occurrence kept)
-    by_body body.Counter = has_word (s.new_view.word (replicated_place decls id))
-    by_body (body.Register kind start) = has_word (s.new_view.word (replicated_place decls id))
+        word_effect (option_map_or (λ value. meaning expr (names_environment decls s.new_view words (Some value) (Some kept))) (earlier source).occurrence kept)
+    by_body body.Counter = word_effect (s.new_view.word (replicated_place decls id))
+    by_body (body.Register kind start) = word_effect (s.new_view.word (replicated_place decls id))
     by_body (body.Event kind) = occurs (put_word s.fires id)
     by_body (body.Changed of) = occurs (change_of (signal_word p s.words s.old_view of) (words of))
     by_body (body.Map source kind expr) =
@@ -115,7 +115,7 @@ body_effect p s id b earlier = by_body b
 abbrev pub place_effect : Program → Step → ℕ → (ℕ → Effect) → Effect
 place_effect p s id earlier = option_map_or (λ d. body_effect p s id d.body earlier) (slice_get p.decls.items id) no_effect
 
--- what a declaration has behind an entry
+-- what a declaration has after an entry
 abbrev pub effect : Program → Step → ℕ → Effect
 effect p s = below no_effect (place_effect p s) (length p.decls.items)
 
@@ -127,7 +127,7 @@ is_cell_at decls id = option_map_or is_cell (slice_get decls id) false
 abbrev pub cell_ids : List Decl → List ℕ
 cell_ids decls = filter (is_cell_at decls) (range_with_len 0 (length decls))
 
--- the words of vars and folds behind an entry, in order of declaration
+-- the words of vars and folds after an entry, in order of declaration
 abbrev pub words_after : Program → Step → List Word
 words_after p s = map (λ id. (effect p s id).word) (cell_ids p.decls.items)
 

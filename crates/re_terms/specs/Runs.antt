@@ -1,7 +1,8 @@
--- Plain states, and the entries of a run.
+-- Plain states, and the entries of a run, of one device and programs without replicated cells.
 -- Read against: `var x: int = 2; signal s = x + 3;` begins with the one word 2, and has 5 after a turn that sets x to 5.
-use Rattle.std.specs.Prelude.{List, [], ◌∷◌}
+use Rattle.std.specs.Prelude.{◌≡◌, List, [], ◌∷◌}
 use Rattle.re_terms.specs.declared.entry.Put.{Put}
+use Rattle.re_terms.specs.declared.entry.State.{State}
 use Rattle.re_terms.specs.declared.program.Program.{Program}
 use Rattle.re_terms.specs.declared.word.Word.{Word}
 use Rattle.re_terms.specs.Propagation.{Step, words_after}
@@ -36,3 +37,8 @@ entry_after p s (Turn sets fires) = record { words = words_after p (step_of p s.
 abbrev pub run_entries : Program → PlainState → List PlainEntry → PlainState
 run_entries p s [] = s
 run_entries p s (e ∷ entries) = run_entries p (entry_after p s e) entries
+
+-- a state stands for a plain one: its words are equal, and no update was taken
+pub record StandsForPlain (p : Program) (s : State) (plain : PlainState) : Type 0 where
+  pub words : s.words.items ≡ plain.words
+  pub rep : s.rep ≡ start_replicated (shape_of p)

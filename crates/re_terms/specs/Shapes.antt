@@ -1,9 +1,8 @@
 -- The shape of a program's replicated states, the states that fit it, and the start states.
 -- Read against: `device a; device b; symbol red; counter c; set s: sym;` has 2 devices, 1 symbol and the kinds counter and set of symbols;
 -- its start state has zeros for both devices and for c, and no pair; a pair of s fits where its element is the symbol 0 and the vector covers its dot.
-use Rattle.std.specs.Prelude.{ℕ, ◌^◌, ◌<◌, ◌≤◌, ◌≡◌, ◌&&◌, Bool, true, false, List, [], length, map, nat_lt, nat_le, Option, None, Some, slice_get, slice_index, count_by}
+use Rattle.std.specs.Prelude.{ℕ, ◌^◌, ◌<◌, ◌≤◌, ◌≡◌, ◌&&◌, Bool, true, false, List, [], length, map, nat_lt, nat_le, Option, None, Some, slice_get, slice_index, count_by, replicate}
 use Rattle.std.specs.List.{All, filter_map, list_all, sum_by}
-use Rattle.std.proofs.Math.ListN.{replicate}
 use Rattle.std.specs.List.Sorted.{IsStrictlySortedBy}
 use Rattle.re_terms.specs.Arithmetic.{is_word_number}
 use Rattle.re_terms.specs.Listed.{plain}
@@ -76,8 +75,9 @@ is_word_of symbols kind.Bool (word.Bool b) = true
 is_word_of symbols kind.Sym (word.Sym number) = nat_lt number symbols
 is_word_of symbols k w = false
 
--- numbers of devices: each is below the bound, and there is none but 0 past the count of devices
+-- one number per device, for 16 of them: each is below the bound, and there is none but 0 past the count of devices
 pub record AreOfDevices (devices bound : ℕ) (numbers : List ℕ) : Type 0 where
+  pub places : length numbers ≡ 16
   pub bounded : All (λ n. n < bound) numbers
   pub none : (device : ℕ) → devices ≤ device → slice_index numbers device ≡ 0
 
@@ -85,7 +85,7 @@ pub record AreOfDevices (devices bound : ℕ) (numbers : List ℕ) : Type 0 wher
 abbrev pub is_pair_of : Shape → Kind → List ℕ → Pair → Bool
 is_pair_of shape k counts p = is_word_of shape.symbols k p.element && nat_lt p.dot.device shape.devices && nat_lt 0 p.dot.number && nat_le p.dot.number (slice_index counts p.dot.device)
 
--- a register's stamp is below 2^52; at stamp 0 it has its start word, and else a word of its kind that a device wrote
+-- a register's stamp is below 2^52; at stamp 0 it has device 0 and its start word, and else a word of its kind that a device wrote
 pub record FitsRegister (shape : Shape) (k : Kind) (start : Word) (w : Written) : Type 0 where
   pub bounded : w.stamp < 2 ^ 52
   pub unwritten : w.stamp ≡ 0 → (w.device ≡ 0) × (w.word ≡ start)

@@ -14,7 +14,7 @@ use Rattle.re_terms.specs.Programs.{is_replicated}
 use Rattle.re_terms.specs.Signal.{cell_place}
 use Rattle.re_terms.specs.Views.{View}
 
--- the word of a declaration that has none
+-- what stands in place of a word where a declaration has none
 abbrev pub no_word : Word
 no_word = word.Int (pos 0)
 
@@ -32,7 +32,7 @@ names_environment decls view words arg own = record {
   own = own;
 }
 
--- the word of the declaration with this body: a var's and a fold's is kept, a replicated cell's is seen, and a signal's is its expression's over the words before it
+-- the word of the declaration with this body: a var's and a fold's is kept, a replicated cell's is seen, and a signal's is its expression's over the words of earlier declarations
 abbrev pub body_word : List Decl → List Word → View → ℕ → Body → (ℕ → Word) → Word
 body_word decls cells view id (body.Signal kind expr) words = meaning expr (names_environment decls view words None None)
 body_word decls cells view id (body.Var kind start region) words = slice_index_or cells (cell_place decls id) no_word

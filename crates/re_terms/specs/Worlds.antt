@@ -1,4 +1,4 @@
--- One step of a session's world.
+-- One step of a session's world, of one device and programs without replicated cells.
 -- Read against: on `var x: int = 2; signal s = x + 3;` the commands get s, turn x = 5, get s are answered 5, ok 1, 8; the 4,097th turn is answered with the code 29.
 use Rattle.std.specs.Prelude.{ℕ, ◌+◌, ◌-◌, ◌^◌, ◌||◌, Bool, if◌then◌else◌, List, [], ◌∷◌, ◌++◌, length, nat_le}
 use Rattle.re_terms.specs.declared.word.Word.{Word}
@@ -16,7 +16,7 @@ use Rattle.re_terms.specs.WordOrder.{elements_of}
 pub record World : Type 0 where
   pub base : PlainState
   pub number : ℕ
-  pub kept : List PlainEntry
+  pub settled : List PlainEntry
 
 -- how a command fared: as it should, or memory ran out in it
 pub data Outcome : Type 0 where
@@ -26,7 +26,7 @@ pub data Outcome : Type 0 where
 pub data PlainAnswer : Type 0 where
   -- the entry has this number and is settled
   Entered : (number : ℕ) → PlainAnswer
-  -- the entry has this number and is loose
+  -- the entry has this number and is unsettled
   Applied : (number : ℕ) → PlainAnswer
   -- all entries up to this number are settled
   Settled : (number : ℕ) → PlainAnswer
@@ -63,15 +63,15 @@ plain_answer (answer.BadFile file place) = BadFile file place
 
 -- the world before any command
 abbrev pub start_world : Program → World
-start_world p = record { base = plain_start p; number = 0; kept = [] }
+start_world p = record { base = plain_start p; number = 0; settled = [] }
 
 -- the device's state
 abbrev pub world_state : Program → World → PlainState
-world_state p w = run_entries p w.base w.kept
+world_state p w = run_entries p w.base w.settled
 
 -- the number of its last entry
 abbrev pub last_number : World → ℕ
-last_number w = w.number + length w.kept
+last_number w = w.number + length w.settled
 
 -- a device that took so many entries since it was opened, the last of which has this number, takes no more
 abbrev pub is_full : ℕ → ℕ → Bool
@@ -84,13 +84,13 @@ turn_entry t = Turn t.turn.sets.items t.turn.fires.items
 -- the answer to a command
 abbrev pub reply : Program → World → Command → Outcome → PlainAnswer
 reply p w c Memory = Refused 36
-reply p w (command.Turn device turn) Fine = if is_full (length w.kept) (last_number w) then Refused 29 else Entered (last_number w + 1)
+reply p w (command.Turn device turn) Fine = if is_full (length w.settled) (last_number w) then Refused 29 else Entered (last_number w + 1)
 reply p w (command.Get device id) Fine = Value (signal_word p (world_state p w).words (start_view p) id)
 reply p w c Fine = Refused 19
 
--- the world after a command: a turn that isn't refused is kept as an entry, and nothing else changes it
+-- the world after a command: a turn that isn't refused is settled as an entry, and nothing else changes it
 abbrev pub world_after : Program → World → Command → Outcome → World
-world_after p w (command.Turn device turn) Fine = if is_full (length w.kept) (last_number w) then w else record { base = w.base; number = w.number; kept = w.kept ++ turn_entry turn ∷ [] }
+world_after p w (command.Turn device turn) Fine = if is_full (length w.settled) (last_number w) then w else record { base = w.base; number = w.number; settled = w.settled ++ turn_entry turn ∷ [] }
 world_after p w c o = w
 
 -- one step

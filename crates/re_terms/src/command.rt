@@ -21,7 +21,7 @@ pub enum Command {
 pub enum Answer {
     /// The entry has this number and is settled.
     Entered(u64),
-    /// The entry has this number and is loose.
+    /// The entry has this number and is unsettled.
     Applied(u64),
     /// All entries up to this number are settled.
     Settled(u64),
