@@ -1,9 +1,10 @@
 //! The merge of two sets.
-ghost use Rattle.std.specs.Prelude.{◌≡◌, ◌++◌, ◌∷◌, [], ◌+◌, ◌<◌, ◌≤◌, if◌then◌else◌, IfNone, IfOk, IfSome, OnOk, OnErr, drop, length};
+ghost use Rattle.std.specs.Prelude.{◌≡◌, ◌++◌, ◌∷◌, [], ◌+◌, ◌-◌, ◌<◌, ◌≤◌, cond, IfNone, IfOk, IfSome, OnOk, drop, length, not};
 ghost use Rattle.std.specs.List.{All};
 ghost use Rattle.std.specs.List.Sorted.{IsStrictlySortedBy};
 ghost use Rattle.re_terms.specs.CellStates.{join_pairs};
 ghost use Rattle.re_terms.specs.Listed.{plain};
+ghost use Rattle.re_terms.specs.Vectors.{covers};
 ghost use Rattle.re_terms.specs.WordOrder.{pair_cmp};
 
 use crate::order::compare_pairs;
@@ -31,7 +32,7 @@ fn first_step(a: &[Pair], av: &Vector, b: &[Pair], bv: &Vector) -> Option<Step>
     ensures own { IfSome result (λ step. step.own ≤ length a.now) }
     ensures other { IfSome result (λ step. step.other ≤ length b.now) }
     ensures taken { IfSome result (λ step. 0 < step.own + step.other) }
-    ensures merged { IfSome result (λ step. join_pairs av.now.counts bv.now.counts a.now b.now ≡ (if step.kept then step.pair ∷ [] else []) ++ join_pairs av.now.counts bv.now.counts (drop step.own a.now) (drop step.other b.now)) }
+    ensures merged { IfSome result (λ step. join_pairs av.now.counts bv.now.counts a.now b.now ≡ cond step.kept (step.pair ∷ []) [] ++ join_pairs av.now.counts bv.now.counts (drop step.own a.now) (drop step.other b.now)) }
 {
     match (a.first(), b.first()) {
         (None, None) => None,

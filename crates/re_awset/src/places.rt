@@ -34,6 +34,8 @@ pub fn places_of(pairs: &[Pair], element: Word) -> Places
     requires { IsStrictlySortedBy pair_cmp pairs.now }
     ensures from { result.from ≡ count_by (is_below element) pairs.now }
     ensures to { result.to ≡ count_by (is_up_to element) pairs.now }
+    ensures order { result.from ≤ result.to }
+    ensures within { result.to ≤ length pairs.now }
 {
     let from = pairs.partition_point(|pair| is_below(pair, element));
     let to = pairs.partition_point(|pair| is_up_to(pair, element));

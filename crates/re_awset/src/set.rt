@@ -1,10 +1,11 @@
 //! A set's inserts, removes and reads.
-ghost use Rattle.std.specs.Prelude.{◌≡◌, ◌↔◌, ◌-◌, ◌^◌, ◌<◌, ◌≤◌, OnOk, OnErr, length, min};
+ghost use Rattle.std.specs.Prelude.{◌≡◌, ◌↔◌, ◌++◌, ◌∷◌, ◌-◌, ◌^◌, ◌<◌, ◌≤◌, OnOk, OnErr, drop, length, min, not, slice_index_or, take};
 ghost use Rattle.std.specs.List.{list_any};
 ghost use Rattle.std.specs.List.Sorted.{IsStrictlySortedBy};
 ghost use Rattle.re_awset.specs.Inserting.{with_insert};
 ghost use Rattle.re_terms.specs.UpdateStates.{without};
 ghost use Rattle.re_terms.specs.WordOrder.{elements_of, pair_cmp, same_word};
+ghost use Rattle.re_terms.specs.declared.replicated.Pair.{Pair as APair};
 
 use crate::order::compare_words;
 use crate::places::{Places, places_of, take_out};
@@ -14,6 +15,11 @@ use std::cmp::Ordering;
 
 /// Puts a pair in the place of those at these places.
 fn put_at(s: &mut Seq<Pair>, places: Places, pair: Pair) -> Result<(), AllocError>
+    requires order { places.from ≤ places.to }
+    requires within { places.to ≤ length s.old.items }
+    ensures ok { OnOk result (s.new.items ≡ take places.from s.old.items ++ pair ∷ drop places.to s.old.items) }
+    ensures spare { s.new.spare ≤ s.old.spare }
+    ensures err { OnErr result (s.new ≡ s.old) }
 {
     if places.from == places.to {
         return s.insert(places.from, pair);
@@ -65,6 +71,9 @@ pub fn has(s: &Seq<Pair>, element: Word) -> bool
 
 /// Whether the pair at this place is the first of its element.
 fn is_first(pairs: &[Pair], place: usize) -> bool
+    requires ascend { IsStrictlySortedBy pair_cmp pairs.now }
+    requires within { place < length pairs.now }
+    ensures { (d : APair) → result ≡ not (list_any (λ p. same_word p.element (slice_index_or pairs.now place d).element) (take place pairs.now)) }
 {
     place == 0 || compare_words(pairs[place - 1].element, pairs[place].element) != Ordering::Equal
 }
