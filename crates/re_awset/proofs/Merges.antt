@@ -1,6 +1,6 @@
 -- The merge of two sets, pair by pair from the front.
-use Rattle.std.proofs.Common.{◌≡◌, ℕ, Bool, true, false, cond, not, List, [], ◌∷◌, ◌++◌, refl, sym, ap, ◌∙◌}
-use Rattle.std.specs.Prelude.{◌||◌}
+use Rattle.std.proofs.Common.{◌≡◌, ℕ, Bool, true, false, cond, not, List, [], ◌∷◌, ◌++◌, Some, drop, refl, sym, ap, ◌∙◌, subst}
+use Rattle.std.specs.Prelude.{◌||◌, slice_get}
 use Rattle.std.specs.declared.cmp.Ordering.{Ordering}
 use Rattle.std.specs.declared.cmp.Ordering.TheVariants.{Less, Equal, Greater}
 use Rattle.std.specs.Ordering.{eq_by_cmp, is_eq, is_lt, ordering_reverse}
@@ -8,13 +8,13 @@ use Rattle.std.specs.List.{list_any, filter, AllByRecursion}
 use Rattle.std.specs.List.Sorted.{IsStrictlySortedBy}
 use Rattle.re_terms.proofs.Lists.{any-append}
 use Rattle.re_terms.proofs.Values.{any-pairs}
-use Rattle.re_terms.proofs.WordOrders.{any-ascending, ascending_from, ascending_sorted, pair_cmp_total, pair_cmp_same, same_pair-refl}
+use Rattle.re_terms.proofs.WordOrders.{any-ascending, ascending_from, ascending_is, ascending_sorted, pair_cmp_total, pair_cmp_same, same_pair-refl}
 use Rattle.re_terms.specs.CellStates.{has_pair, join_pairs}
 use Rattle.re_terms.specs.Vectors.{covers}
 use Rattle.re_terms.specs.WordOrder.{pair_cmp, ascending}
 use Rattle.re_terms.specs.declared.replicated.Pair.{Pair}
 use Rattle.re_awset.proofs.Inserts.{any-midst}
-use Rattle.re_awset.proofs.Ordered.{all_append, all_below, all_filter, all_weaker, filter-agree, none_other, none_passes}
+use Rattle.re_awset.proofs.Ordered.{all_above, all_append, all_below, all_filter, all_weaker, filter-agree, none_other, none_passes}
 
 -- the first in order stands before the order of the rest
 ascending-cons : (x : Pair) (ps qs : List Pair) → ((q : Pair) → list_any (eq_by_cmp pair_cmp q) ps ≡ (eq_by_cmp pair_cmp q x || list_any (eq_by_cmp pair_cmp q) qs)) → AllByRecursion (λ y. pair_cmp x y ≡ Less) qs → ascending ps ≡ x ∷ ascending qs
@@ -80,3 +80,41 @@ module _ (av bv : List ℕ) where
       again : (a b : Bool) → (a || (a || b)) ≡ (a || b)
       again true b = refl
       again false b = refl
+
+  -- the same by the first of each list
+  pub own-first : (x : Pair) (a b : List Pair) → IsStrictlySortedBy pair_cmp a → IsStrictlySortedBy pair_cmp b → slice_get a 0 ≡ Some x → ((y : Pair) → slice_get b 0 ≡ Some y → pair_cmp x y ≡ Less) → join_pairs av bv a b ≡ cond (not (covers bv x.dot)) (x ∷ []) [] ++ join_pairs av bv (drop 1 a) b
+  unfolding IsStrictlySortedBy
+  own-first x [] b s t e below = absurd (cc)
+  own-first x (z ∷ a) [] s t e below =
+      let same : z ≡ x = cc in
+      subst (λ w. join_pairs av bv (z ∷ a) [] ≡ cond (not (covers bv w.dot)) (w ∷ []) [] ++ join_pairs av bv a []) same (join-own z a [] s.0 tt)
+  own-first x (z ∷ a) (y ∷ b) s t e below =
+      let same : z ≡ x = cc in
+      let less : pair_cmp z y ≡ Less = ap (λ w. pair_cmp w y) same ∙ below y refl in
+      subst (λ w. join_pairs av bv (z ∷ a) (y ∷ b) ≡ cond (not (covers bv w.dot)) (w ∷ []) [] ++ join_pairs av bv a (y ∷ b)) same (join-own z a (y ∷ b) s.0 (less, all_above pair_cmp pair_cmp_total z y b less t.0))
+
+  pub other-first : (y : Pair) (a b : List Pair) → IsStrictlySortedBy pair_cmp a → IsStrictlySortedBy pair_cmp b → slice_get b 0 ≡ Some y → ((x : Pair) → slice_get a 0 ≡ Some x → pair_cmp y x ≡ Less) → join_pairs av bv a b ≡ cond (not (covers av y.dot)) (y ∷ []) [] ++ join_pairs av bv a (drop 1 b)
+  unfolding IsStrictlySortedBy
+  other-first y a [] s t e below = absurd (cc)
+  other-first y [] (z ∷ b) s t e below =
+      let same : z ≡ y = cc in
+      subst (λ w. join_pairs av bv [] (z ∷ b) ≡ cond (not (covers av w.dot)) (w ∷ []) [] ++ join_pairs av bv [] b) same (join-other z [] b tt t.0)
+  other-first y (x ∷ a) (z ∷ b) s t e below =
+      let same : z ≡ y = cc in
+      let less : pair_cmp z x ≡ Less = ap (λ w. pair_cmp w x) same ∙ below x refl in
+      subst (λ w. join_pairs av bv (x ∷ a) (z ∷ b) ≡ cond (not (covers av w.dot)) (w ∷ []) [] ++ join_pairs av bv (x ∷ a) b) same (join-other z (x ∷ a) b (less, all_above pair_cmp pair_cmp_total z x a less s.0) t.0)
+
+  pub both-first : (x y : Pair) (a b : List Pair) → IsStrictlySortedBy pair_cmp a → IsStrictlySortedBy pair_cmp b → slice_get a 0 ≡ Some x → slice_get b 0 ≡ Some y → pair_cmp x y ≡ Equal → join_pairs av bv a b ≡ x ∷ join_pairs av bv (drop 1 a) (drop 1 b)
+  unfolding IsStrictlySortedBy
+  both-first x y [] b s t e f q = absurd (cc)
+  both-first x y (z ∷ a) [] s t e f q = absurd (cc)
+  both-first x y (z ∷ a) (w ∷ b) s t e f q =
+      let own : z ≡ x = cc in
+      let other : w ≡ y = cc in
+      let same : w ≡ z = other ∙ sym (pair_cmp_same x y q) ∙ sym own in
+      let below = subst (λ p. AllByRecursion (λ r. pair_cmp p r ≡ Less) b) same t.0 in
+      ap (λ p. join_pairs av bv (z ∷ a) (p ∷ b)) same ∙ join-both z a b s.0 below ∙ ap (λ p. p ∷ join_pairs av bv a b) own
+
+  pub join-none : join_pairs av bv [] [] ≡ []
+  unfolding join_pairs IsStrictlySortedBy
+  join-none = ascending_is [] tt

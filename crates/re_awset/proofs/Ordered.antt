@@ -1,5 +1,5 @@
 -- Lists in strict order, put together; and what holds of each member.
-use Rattle.std.proofs.Common.{◌≡◌, Bool, true, false, cond, not, List, [], ◌∷◌, ◌++◌, refl, sym, ap, ◌∙◌}
+use Rattle.std.proofs.Common.{◌≡◌, ℕ, zero, suc, drop, Bool, true, false, cond, not, List, [], ◌∷◌, ◌++◌, refl, sym, ap, ◌∙◌}
 use Rattle.std.specs.Prelude.{◌||◌}
 use Rattle.std.specs.declared.cmp.Ordering.{Ordering}
 use Rattle.std.specs.declared.cmp.Ordering.TheVariants.{Less, Equal, Greater}
@@ -59,3 +59,10 @@ module _ {K : Type 0} (R : K → K → Ordering) (o : IsTotalOrder R) where
   unfolding IsStrictlySortedBy
   sorted_join [] ys p s t h = t
   sorted_join (x ∷ xs) ys p s t h = (all_append (λ y. R x y ≡ Less) xs (p ∷ ys) s.0 (h.0, all_above x p ys h.0 t.0), sorted_join xs ys p s.1 t h.1)
+
+-- what stands behind the first in a list in order is in order
+pub sorted_drop : {K : Type 0} (R : K → K → Ordering) (n : ℕ) (xs : List K) → IsStrictlySortedBy R xs → IsStrictlySortedBy R (drop n xs)
+unfolding IsStrictlySortedBy
+sorted_drop R zero xs s = s
+sorted_drop R (suc n) [] s = tt
+sorted_drop R (suc n) (x ∷ xs) s = sorted_drop R n xs s.1

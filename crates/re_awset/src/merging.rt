@@ -1,5 +1,5 @@
 //! The merge of two sets.
-ghost use Rattle.std.specs.Prelude.{◌≡◌, ◌++◌, ◌∷◌, [], ◌+◌, ◌-◌, ◌<◌, ◌≤◌, cond, IfNone, IfOk, IfSome, OnOk, drop, length, not};
+ghost use Rattle.std.specs.Prelude.{◌≡◌, ◌++◌, ◌∷◌, [], ◌+◌, ◌<◌, ◌≤◌, cond, IfNone, IfOk, IfSome, OnOk, drop, length, not, true};
 ghost use Rattle.std.specs.List.{All};
 ghost use Rattle.std.specs.List.Sorted.{IsStrictlySortedBy};
 ghost use Rattle.re_terms.specs.CellStates.{join_pairs};
@@ -29,6 +29,7 @@ fn first_step(a: &[Pair], av: &Vector, b: &[Pair], bv: &Vector) -> Option<Step>
     requires a_devices { All (λ p. p.dot.device < 16) a.now }
     requires b_devices { All (λ p. p.dot.device < 16) b.now }
     ensures none { IfNone result ((a.now ≡ []) × (b.now ≡ [])) }
+    ensures one { IfSome result (λ step. (step.own ≤ 1) × (step.other ≤ 1)) }
     ensures own { IfSome result (λ step. step.own ≤ length a.now) }
     ensures other { IfSome result (λ step. step.other ≤ length b.now) }
     ensures taken { IfSome result (λ step. 0 < step.own + step.other) }
@@ -77,20 +78,33 @@ fn other_step(q: &Pair, av: &Vector) -> Step
     }
 }
 
-/// Puts a pair behind the others, where there is room.
-fn push_within(merged: &mut Seq<Pair>, pair: Pair, room: usize) -> Result<(), SetFault>
+/// Puts a step's pair behind the others where it is kept, if there is room.
+fn take_in(merged: &mut Seq<Pair>, step: Step, room: usize) -> Result<(), SetFault>
     requires { length merged.old.items ≤ room }
-    ensures ok { OnOk result (merged.new ≡ record { items = merged.old.items ++ pair ∷ []; spare = merged.old.spare - 1 }) }
+    ensures ok { OnOk result (merged.new.items ≡ merged.old.items ++ cond step.kept (step.pair ∷ []) []) }
+    ensures spare { merged.new.spare ≤ merged.old.spare }
     ensures room { OnOk result (length merged.new.items ≤ room) }
-    ensures full { result ≡ Err SetFault.SetFull → length merged.old.items ≡ room }
+    ensures full { result ≡ Err SetFault.SetFull → (step.kept ≡ true) × (length merged.old.items ≡ room) }
 {
+    if !step.kept {
+        return Ok(());
+    }
     if merged.len() >= room {
         return Err(SetFault::SetFull);
     }
-    match merged.push(pair) {
+    match merged.push(step.pair) {
         Ok(()) => Ok(()),
         Err(AllocError) => Err(SetFault::Memory),
     }
+}
+
+/// What stands behind so many pairs, one at most.
+fn behind(pairs: &[Pair], count: usize) -> &[Pair]
+    requires one { count ≤ 1 }
+    requires within { count ≤ length pairs.now }
+    ensures { result.now ≡ drop count pairs.now }
+{
+    &pairs[count..]
 }
 
 /// The merge of two sets with their vectors: the pairs that are in both, and the pairs of one whose dot the other's
@@ -123,11 +137,9 @@ pub fn merge_pairs(
     let mut own = a.as_slice();
     let mut other = b.as_slice();
     while let Some(step) = first_step(own, av, other, bv) {
-        if step.kept {
-            push_within(&mut merged, step.pair, room)?;
-        }
-        own = &own[step.own..];
-        other = &other[step.other..];
+        take_in(&mut merged, step, room)?;
+        own = behind(own, step.own);
+        other = behind(other, step.other);
     }
     Ok(merged)
 }
