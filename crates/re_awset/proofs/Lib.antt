@@ -1,0 +1,7 @@
+pub mod Cuts
+pub mod Fronts
+pub mod Inserts
+pub mod Merges
+pub mod Ordered
+pub mod Sizes
+pub mod Splits

@@ -1,0 +1,1 @@
+//! Sets, changed and merged.
