@@ -1,5 +1,5 @@
 //! The law of sets.
-ghost use Rattle.std.specs.Prelude.{ap};
+ghost use Rattle.std.proofs.Common.{ap};
 ghost use Rattle.re_terms.proofs.Sets.{set_join};
 ghost use Rattle.re_terms.specs.CellStates.{Pairing.AddWins, join_pairs, pairs_of};
 ghost use Rattle.re_terms.specs.Listed.{plain};
