@@ -13,7 +13,7 @@ remove-between xs from to left some order within =
     let next : from + 1 ≡ suc from = omega arith in
     let behind : (to - left) + 1 ≡ to - (left - 1) = omega arith in
     let rest : drop (suc from) (front ++ back) ≡ drop (to - (left - 1)) xs =
-        ap (λ n. drop n (front ++ back)) (sym next) ∙ sym (drop-drop 1 from (front ++ back)) ∙ ap (drop 1) (drop_at front back from here) ∙ drop-drop 1 (to - left) xs ∙ ap (λ n. drop n xs) behind in
+    ap (λ n. drop n (front ++ back)) (sym next) ∙ sym (drop-drop 1 from (front ++ back)) ∙ ap (drop 1) (drop_at front back from here) ∙ drop-drop 1 (to - left) xs ∙ ap (λ n. drop n xs) behind in
     ap (λ l. l ++ drop (suc from) (front ++ back)) (take_at front back from here) ∙ ap (λ l. front ++ l) rest
 
 -- the first of a part replaced, and the others taken out

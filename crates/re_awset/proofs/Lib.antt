@@ -1,6 +1,7 @@
 pub mod Cuts
 pub mod Fronts
 pub mod Inserts
+pub mod Kept
 pub mod Merges
 pub mod Ordered
 pub mod Sizes
