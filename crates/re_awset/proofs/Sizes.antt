@@ -1,5 +1,5 @@
 -- How many elements pairs that ascend have, from the front.
-use Rattle.std.proofs.Common.{◌≡◌, ℕ, zero, suc, ◌+◌, ◌-◌, ◌<◌, Bool, true, false, cond, not, List, [], ◌∷◌, ◌++◌, refl, sym, ap, ◌∙◌, subst, arith, inl, inr, length, get_or, take, length-append}
+use Rattle.std.proofs.Common.{◌≡◌, ℕ, zero, suc, ◌+◌, ◌-◌, ◌<◌, ◌≤◌, Bool, true, false, cond, not, List, [], ◌∷◌, ◌++◌, refl, sym, ap, ◌∙◌, subst, arith, inl, inr, length, get_or, take, length-append}
 use Rattle.std.specs.Prelude.{◌||◌, ◌⊎◌, map, pos}
 use Rattle.std.specs.declared.cmp.Ordering.{Ordering}
 use Rattle.std.specs.declared.cmp.Ordering.TheVariants.{Less, Equal, Greater}
@@ -7,7 +7,7 @@ use Rattle.std.specs.Ordering.{eq_by_cmp, is_eq, is_lt, ordering_reverse}
 use Rattle.std.specs.List.{list_any, AllByRecursion}
 use Rattle.std.specs.List.Sorted.{IsStrictlySortedBy}
 use Rattle.std.proofs.lemmas.Cmp.{tied_itself}
-use Rattle.std.proofs.lemmas.List.{map-append, take_more}
+use Rattle.std.proofs.lemmas.List.{map-append, take_all, take_more}
 use Rattle.re_terms.proofs.Ascending.{ascending_by_is, ascending_by_sorted}
 use Rattle.re_terms.proofs.Lists.{any-append}
 use Rattle.re_terms.proofs.Values.{any-words}
@@ -149,3 +149,17 @@ size-none = ap length (ascending_by_is word_cmp word_cmp_total word_cmp_same [] 
 -- a pair to read where a list ends
 abbrev pub some_pair : Pair
 some_pair = record { element = word.Int (pos 0); dot = record { device = 0; number = 0 } }
+
+elements-take : (xs : List Pair) (i : ℕ) → IsStrictlySortedBy pair_cmp xs → i ≤ length xs → length (elements_of (take i xs)) ≤ i
+elements-take xs zero s l = let none = size-none in omega arith
+elements-take xs (suc i) s l =
+    let more = size-more xs i some_pair s (omega arith) in
+    let next : i + 1 ≡ suc i = omega arith in
+    let same : length (elements_of (take (i + 1) xs)) ≡ length (elements_of (take (suc i) xs)) = ap (λ n. length (elements_of (take n xs))) next in
+    let rest = elements-take xs i s (omega arith) in
+    let step : cond (list_any (λ p. same_word p.element (get_or xs i some_pair).element) (take i xs)) 0 1 ≤ 1 = elim (list_any (λ p. same_word p.element (get_or xs i some_pair).element) (take i xs)) as (λ b. cond b 0 1 ≤ 1) [ true ↦ omega arith | false ↦ omega arith ] in
+    omega arith
+
+-- there are at most as many elements as pairs
+pub elements-le-pairs : (xs : List Pair) → IsStrictlySortedBy pair_cmp xs → length (elements_of xs) ≤ length xs
+elements-le-pairs xs s = let whole : length (elements_of (take (length xs) xs)) ≡ length (elements_of xs) = ap (λ l. length (elements_of l)) (take_all (length xs) xs (omega arith)) in let few = elements-take xs (length xs) s (omega arith) in omega arith

@@ -119,3 +119,11 @@ any-counts e (x ∷ xs) =
 
     less_none : (a b : ℕ) → nat_lt a b ≡ nat_lt (0 + a) (0 + b)
     less_none a b = grind (arith, nat_tests)
+
+-- where as many are below an element as are up to it there is no pair of it
+pub absent-from_places : (e : Word) (xs ys : List Pair) (from to : ℕ) → ys ≡ xs → from ≡ count_by (is_below e) ys → to ≡ count_by (is_up_to e) ys → from ≡ to → list_any (λ p. same_word p.element e) xs ≡ false
+absent-from_places e xs ys from to q f t same =
+    any-counts e xs ∙ equal (count_by (is_below e) xs) (count_by (is_up_to e) xs) (ap (count_by (is_below e)) (sym q) ∙ sym f ∙ same ∙ t ∙ ap (count_by (is_up_to e)) q)
+  where
+    equal : (a b : ℕ) → a ≡ b → nat_lt a b ≡ false
+    equal a b h = grind (arith, nat_tests)

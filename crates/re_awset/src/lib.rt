@@ -3,8 +3,8 @@
 
 pub mod law;
 pub mod merging;
-pub mod order;
-pub mod places;
+mod order;
+mod places;
 pub mod set;
 #[cfg(test)]
 mod tests;

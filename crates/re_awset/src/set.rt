@@ -1,5 +1,5 @@
 //! A set's inserts, removes and reads.
-ghost use Rattle.std.specs.Prelude.{◌≡◌, ◌↔◌, ◌++◌, ◌∷◌, ◌-◌, ◌^◌, ◌<◌, ◌≤◌, OnOk, OnErr, drop, length, min, not, slice_index_or, take};
+ghost use Rattle.std.specs.Prelude.{◌≡◌, ◌↔◌, ◌++◌, ◌∷◌, ◌-◌, ◌^◌, ◌<◌, ◌≤◌, OnOk, OnErr, drop, length, min, not, slice_index_or, take, false};
 ghost use Rattle.std.specs.List.{list_any};
 ghost use Rattle.std.specs.List.Sorted.{IsStrictlySortedBy};
 ghost use Rattle.re_awset.specs.Inserting.{with_insert};
@@ -19,6 +19,7 @@ fn put_at(s: &mut Seq<Pair>, places: Places, pair: Pair) -> Result<(), AllocErro
     requires within { places.to ≤ length s.old.items }
     ensures ok { OnOk result (s.new.items ≡ take places.from s.old.items ++ pair ∷ drop places.to s.old.items) }
     ensures spare { s.new.spare ≤ s.old.spare }
+    ensures memory { OnErr result ((s.old.spare ≡ 0) × (places.from ≡ places.to)) }
     ensures err { OnErr result (s.new ≡ s.old) }
 {
     if places.from == places.to {
@@ -31,13 +32,14 @@ fn put_at(s: &mut Seq<Pair>, places: Places, pair: Pair) -> Result<(), AllocErro
 
 /// Puts one pair of the element, by this dot, in the place of all its pairs.
 ///
-/// The condition is that the pairs ascend. `SetFull` comes exactly where the set would have over `room` pairs. A refusal
-/// changes nothing, and an element that is there takes no memory.
+/// The condition is that the pairs ascend. `SetFull` comes exactly where the set would have over `room` pairs. Memory can
+/// be wanting only where none is reserved and the element isn't there. A refusal changes nothing.
 pub fn insert(s: &mut Seq<Pair>, element: Word, dot: Dot, room: u32) -> Result<(), SetFault>
     requires { IsStrictlySortedBy pair_cmp s.old.items }
     ensures ok { OnOk result (s.new.items ≡ with_insert s.old.items element dot) }
     ensures spare { s.new.spare ≤ s.old.spare }
     ensures full { (result ≡ Err SetFault.SetFull) ↔ (room < length (with_insert s.old.items element dot)) }
+    ensures memory { result ≡ Err SetFault.Memory → (s.old.spare ≡ 0) × (list_any (λ p. same_word p.element element) s.old.items ≡ false) }
     ensures err { OnErr result (s.new ≡ s.old) }
 {
     let places = places_of(s.as_slice(), element);
@@ -81,7 +83,9 @@ fn is_first(pairs: &[Pair], place: usize) -> bool
 /// How many elements the set has, each counted once. The condition is that the pairs ascend. It takes no memory.
 pub fn size(s: &Seq<Pair>) -> u32
     requires { IsStrictlySortedBy pair_cmp s.now.items }
-    ensures { result ≡ min (length (elements_of s.now.items)) (2 ^ 32 - 1) }
+    ensures few { length s.now.items < 2 ^ 32 → result ≡ length (elements_of s.now.items) }
+    // A list of 2^32 pairs or more can have more elements than the type has numbers.
+    ensures clipped { result ≡ min (length (elements_of s.now.items)) (2 ^ 32 - 1) }
 {
     let pairs = s.as_slice();
     let mut count: u32 = 0;

@@ -1,7 +1,8 @@
-use Rattle.std.proofs.Common.{◌≡◌, ℕ, ◌+◌, ◌∙◌, Bool, true, false, cond, not, subst, sym, arith, min}
+use Rattle.std.proofs.Common.{◌≡◌, ℕ, ◌+◌, ◌∙◌, Bool, true, false, ap, cond, length, not, subst, sym, take, arith, min}
 use Rattle.std.specs.List.Sorted.{IsStrictlySortedBy}
-use Rattle.re_terms.specs.WordOrder.{pair_cmp}
-use Rattle.re_awset.proofs.Sizes.{size-more, size-none, some_pair}
+use Rattle.std.proofs.lemmas.List.{take_all}
+use Rattle.re_terms.specs.WordOrder.{elements_of, pair_cmp}
+use Rattle.re_awset.proofs.Sizes.{elements-le-pairs, size-more, size-none, some_pair}
 use Rattle.re_awset.proofs.set.size.Goals as goal
 use Rattle.re_awset.proofs.set.size.Goals.{then-is_first, else-is_first}
 
@@ -25,3 +26,11 @@ loop-place-preserved c =
       | then-is_first w ↦ counted _ _ _ _ _ (w.count-is ∙ w.saturating_add-count.ensures) c.loop-place.invariant more (sym w.if-is_first.true ∙ first)
       | else-is_first w ↦ passed _ _ _ _ _ w.count-is c.loop-place.invariant more (sym w.if-is_first.false ∙ first)
     ]
+
+pub returns-clause-few : goal.returns-clause-few
+returns-clause-few c =
+    let pairs = c.as_slice-pairs.result.now in
+    let whole : length (elements_of (take c.loop-place.place pairs)) ≡ length (elements_of c.args.s.now.items) = ap (λ l. length (elements_of l)) (take_all c.loop-place.place pairs c.loop-place-test.false ∙ c.as_slice-pairs.ensures) in
+    let few = elements-le-pairs c.args.s.now.items c.requires in
+    let count = c.loop-place.invariant in
+    λ l. omega arith
