@@ -1,9 +1,9 @@
 -- An insert puts its pair between those below its element and those above.
-use Rattle.std.proofs.Common.{◌≡◌, ℕ, ◌+◌, ◌-◌, ◌<◌, ◌≤◌, Bool, true, false, not, List, [], ◌∷◌, ◌++◌, refl, sym, ap, ◌∙◌, arith, length, take, drop, count_by, length-append}
+use Rattle.std.proofs.Common.{◌≡◌, ℕ, ◌+◌, ◌-◌, ◌≤◌, Bool, true, false, not, List, ◌∷◌, ◌++◌, refl, sym, ap, ◌∙◌, arith, length, take, drop, count_by, length-append}
 use Rattle.std.specs.Prelude.{◌||◌}
 use Rattle.std.specs.declared.cmp.Ordering.{Ordering}
 use Rattle.std.specs.declared.cmp.Ordering.TheVariants.{Less, Equal, Greater}
-use Rattle.std.specs.Ordering.{eq_by_cmp, is_gt, ordering_then, ordering_reverse}
+use Rattle.std.specs.Ordering.{eq_by_cmp, ordering_then, ordering_reverse}
 use Rattle.std.specs.List.{list_any, filter}
 use Rattle.std.specs.List.Sorted.{IsStrictlySortedBy}
 use Rattle.std.proofs.lemmas.List.{length-drop, length-take-le}
@@ -15,7 +15,7 @@ use Rattle.re_terms.specs.declared.word.Word.{Word}
 use Rattle.re_terms.specs.declared.replicated.Dot.{Dot}
 use Rattle.re_terms.specs.declared.replicated.Pair.{Pair}
 use Rattle.re_terms.specs.UpdateStates.{without}
-use Rattle.re_terms.specs.WordOrder.{word_cmp, pair_cmp, ascending}
+use Rattle.re_terms.specs.WordOrder.{word_cmp, pair_cmp}
 use Rattle.re_awset.proofs.Fronts.{take-count, drop-count}
 use Rattle.re_awset.proofs.Ordered.{all_passes, all_weaker, sorted_join}
 use Rattle.re_awset.proofs.Splits.{below_falls, up_to_falls, without-split, below-le-up_to, is_lt-less, is_gt-greater}

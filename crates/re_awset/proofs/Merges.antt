@@ -1,12 +1,10 @@
 -- The merge of two sets, pair by pair from the front.
 use Rattle.std.proofs.Common.{◌≡◌, ℕ, Bool, true, false, cond, not, List, [], ◌∷◌, ◌++◌, Some, drop, refl, sym, ap, ◌∙◌, subst}
 use Rattle.std.specs.Prelude.{◌||◌, slice_get}
-use Rattle.std.specs.declared.cmp.Ordering.{Ordering}
-use Rattle.std.specs.declared.cmp.Ordering.TheVariants.{Less, Equal, Greater}
+use Rattle.std.specs.declared.cmp.Ordering.TheVariants.{Less, Equal}
 use Rattle.std.specs.Ordering.{eq_by_cmp, is_eq, is_lt, ordering_reverse}
 use Rattle.std.specs.List.{list_any, filter, AllByRecursion}
 use Rattle.std.specs.List.Sorted.{IsStrictlySortedBy}
-use Rattle.re_terms.proofs.Lists.{any-append}
 use Rattle.re_terms.proofs.Values.{any-pairs}
 use Rattle.re_terms.proofs.WordOrders.{any-ascending, ascending_from, ascending_is, ascending_sorted, pair_cmp_total, pair_cmp_same, same_pair-refl}
 use Rattle.re_terms.specs.CellStates.{has_pair, join_pairs}

@@ -1,4 +1,4 @@
-use Rattle.std.proofs.Common.{◌≡◌, ◌++◌, ◌-◌, ◌∙◌, ap, arith, take, drop}
+use Rattle.std.proofs.Common.{◌∙◌, ap, arith}
 use Rattle.std.specs.List.{remove}
 use Rattle.re_awset.proofs.Cuts.{remove-between}
 use Rattle.re_awset.proofs.places.take_out.Goals as goal

@@ -1,6 +1,4 @@
 use Rattle.std.proofs.Common.{◌∙◌, ap}
-use Rattle.re_terms.specs.Listed.{Listed}
-use Rattle.re_terms.specs.declared.replicated.Pair.{Pair}
 use Rattle.re_awset.proofs.Inserts.{without-from_places}
 use Rattle.re_awset.proofs.set.remove.Goals as goal
 
