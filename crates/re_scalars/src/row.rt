@@ -1,5 +1,5 @@
 //! Rows: one number for each of 16 devices.
-ghost use Rattle.std.specs.Prelude.{◌≡◌, ◌<◌, ◌+◌, ◌*◌, ◌^◌, ◌↔◌, IsFalse, IsOk, OnErr, OnOk, slice_index};
+ghost use Rattle.std.specs.Prelude.{◌≡◌, ◌<◌, ◌+◌, ◌^◌, ◌↔◌, IsFalse, IsOk, OnErr, OnOk, slice_index};
 ghost use Rattle.std.specs.List.{sum};
 ghost use Rattle.re_terms.specs.UpdateStates.{raise};
 ghost use Rattle.re_terms.specs.Vectors.{greater_each};
