@@ -14,12 +14,11 @@ use Rattle.re_terms.proofs.WordOrders.{ascending_from, pair_cmp_total, word_cmp_
 use Rattle.re_terms.specs.declared.word.Word.{Word}
 use Rattle.re_terms.specs.declared.replicated.Dot.{Dot}
 use Rattle.re_terms.specs.declared.replicated.Pair.{Pair}
-use Rattle.re_terms.specs.UpdateStates.{without}
+use Rattle.re_terms.specs.UpdateStates.{pairs_after, without}
 use Rattle.re_terms.specs.WordOrder.{word_cmp, pair_cmp}
 use Rattle.re_awset.proofs.Fronts.{take-count, drop-count}
 use Rattle.re_awset.proofs.Ordered.{all_passes, all_weaker, sorted_join}
 use Rattle.re_awset.proofs.Splits.{below_falls, up_to_falls, without-split, below-le-up_to, is_lt-less, is_gt-greater}
-use Rattle.re_awset.specs.Inserting.{with_insert}
 use Rattle.re_awset.specs.Places.{is_below, is_up_to}
 
 -- what is taken out is what an element has
@@ -56,7 +55,7 @@ swap false b c = refl
 pub any-midst : (f : Pair → Bool) (xs ys : List Pair) (p : Pair) → list_any f (xs ++ p ∷ ys) ≡ (f p || list_any f (xs ++ ys))
 any-midst f xs ys p = any-append f xs (p ∷ ys) ∙ swap (list_any f xs) (f p) (list_any f ys) ∙ ap (λ b. f p || b) (sym (any-append f xs ys))
 
-pub insert-places : (e : Word) (d : Dot) (xs : List Pair) → IsStrictlySortedBy pair_cmp xs → take (count_by (is_below e) xs) xs ++ record { element = e; dot = d } ∷ drop (count_by (is_up_to e) xs) xs ≡ with_insert xs e d
+pub insert-places : (e : Word) (d : Dot) (xs : List Pair) → IsStrictlySortedBy pair_cmp xs → take (count_by (is_below e) xs) xs ++ record { element = e; dot = d } ∷ drop (count_by (is_up_to e) xs) xs ≡ pairs_after d e xs
 unfolding IsStrictlySortedBy
 insert-places e d xs s =
     let new : Pair = record { element = e; dot = d } in
@@ -70,7 +69,7 @@ insert-places e d xs s =
     (λ q. any-midst (eq_by_cmp pair_cmp q) low high new ∙ ap (λ l. eq_by_cmp pair_cmp q new || list_any (eq_by_cmp pair_cmp q) l) (sym (without-split e xs s)))
 
 -- how many pairs there are after an insert
-pub insert-length : (e : Word) (d : Dot) (xs : List Pair) → IsStrictlySortedBy pair_cmp xs → length (with_insert xs e d) ≡ (length xs - (count_by (is_up_to e) xs - count_by (is_below e) xs)) + 1
+pub insert-length : (e : Word) (d : Dot) (xs : List Pair) → IsStrictlySortedBy pair_cmp xs → length (pairs_after d e xs) ≡ (length xs - (count_by (is_up_to e) xs - count_by (is_below e) xs)) + 1
 insert-length e d xs s =
     let from : ℕ = count_by (is_below e) xs in
     let to : ℕ = count_by (is_up_to e) xs in
@@ -83,10 +82,10 @@ insert-length e d xs s =
     ap length (sym (insert-places e d xs s)) ∙ omega arith
 
 -- the same where a slice has the list's pairs
-pub insert-from_places : (e : Word) (d : Dot) (xs ys : List Pair) (from to : ℕ) → ys ≡ xs → IsStrictlySortedBy pair_cmp xs → from ≡ count_by (is_below e) ys → to ≡ count_by (is_up_to e) ys → take from xs ++ record { element = e; dot = d } ∷ drop to xs ≡ with_insert xs e d
+pub insert-from_places : (e : Word) (d : Dot) (xs ys : List Pair) (from to : ℕ) → ys ≡ xs → IsStrictlySortedBy pair_cmp xs → from ≡ count_by (is_below e) ys → to ≡ count_by (is_up_to e) ys → take from xs ++ record { element = e; dot = d } ∷ drop to xs ≡ pairs_after d e xs
 insert-from_places e d xs ys from to q s f t = (λ i. take ((f ∙ ap (count_by (is_below e)) q) i) xs ++ record { element = e; dot = d } ∷ drop ((t ∙ ap (count_by (is_up_to e)) q) i) xs) ∙ insert-places e d xs s
 
-pub length-from_places : (e : Word) (d : Dot) (xs ys : List Pair) (from to : ℕ) → ys ≡ xs → IsStrictlySortedBy pair_cmp xs → from ≡ count_by (is_below e) ys → to ≡ count_by (is_up_to e) ys → length (with_insert xs e d) ≡ (length xs - (to - from)) + 1
+pub length-from_places : (e : Word) (d : Dot) (xs ys : List Pair) (from to : ℕ) → ys ≡ xs → IsStrictlySortedBy pair_cmp xs → from ≡ count_by (is_below e) ys → to ≡ count_by (is_up_to e) ys → length (pairs_after d e xs) ≡ (length xs - (to - from)) + 1
 length-from_places e d xs ys from to q s f t = insert-length e d xs s ∙ (λ i. (length xs - (sym (t ∙ ap (count_by (is_up_to e)) q) i - sym (f ∙ ap (count_by (is_below e)) q) i)) + 1)
 
 pub without-from_places : (e : Word) (xs ys : List Pair) (from to : ℕ) → ys ≡ xs → IsStrictlySortedBy pair_cmp xs → from ≡ count_by (is_below e) ys → to ≡ count_by (is_up_to e) ys → take from xs ++ drop to xs ≡ without e xs

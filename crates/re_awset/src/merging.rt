@@ -14,7 +14,7 @@ use std::alloc::{AllocError, Global};
 use std::cmp::Ordering;
 
 /// The least pair of two lists, whether their merge keeps it, and how many pairs it takes off each list.
-#[derive(Clone, Copy, Debug, PartialEq, Eq)]
+#[derive(Clone, Copy)]
 struct Step {
     pair: Pair,
     kept: bool,

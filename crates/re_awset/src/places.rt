@@ -9,7 +9,7 @@ use re_terms::{Pair, Seq, Word};
 use std::cmp::Ordering;
 
 /// The places of an element's pairs: from the first of them up to the one behind the last.
-#[derive(Clone, Copy, Debug, PartialEq, Eq)]
+#[derive(Clone, Copy)]
 pub struct Places {
     pub from: usize,
     pub to: usize,

@@ -2,8 +2,7 @@
 ghost use Rattle.std.specs.Prelude.{◌≡◌, ◌↔◌, ◌++◌, ◌∷◌, ◌-◌, ◌^◌, ◌<◌, ◌≤◌, OnOk, OnErr, drop, length, min, not, slice_index_or, take, false};
 ghost use Rattle.std.specs.List.{list_any};
 ghost use Rattle.std.specs.List.Sorted.{IsStrictlySortedBy};
-ghost use Rattle.re_awset.specs.Inserting.{with_insert};
-ghost use Rattle.re_terms.specs.UpdateStates.{without};
+ghost use Rattle.re_terms.specs.UpdateStates.{pairs_after, without};
 ghost use Rattle.re_terms.specs.WordOrder.{elements_of, pair_cmp, same_word};
 ghost use Rattle.re_terms.specs.declared.replicated.Pair.{Pair as APair};
 
@@ -36,9 +35,9 @@ fn put_at(s: &mut Seq<Pair>, places: Places, pair: Pair) -> Result<(), AllocErro
 /// be wanting only where none is reserved and the element isn't there. A refusal changes nothing.
 pub fn insert(s: &mut Seq<Pair>, element: Word, dot: Dot, room: u32) -> Result<(), SetFault>
     requires { IsStrictlySortedBy pair_cmp s.old.items }
-    ensures ok { OnOk result (s.new.items ≡ with_insert s.old.items element dot) }
+    ensures ok { OnOk result (s.new.items ≡ pairs_after dot element s.old.items) }
     ensures spare { s.new.spare ≤ s.old.spare }
-    ensures full { (result ≡ Err SetFault.SetFull) ↔ (room < length (with_insert s.old.items element dot)) }
+    ensures full { (result ≡ Err SetFault.SetFull) ↔ (room < length (pairs_after dot element s.old.items)) }
     ensures memory { result ≡ Err SetFault.Memory → (s.old.spare ≡ 0) × (list_any (λ p. same_word p.element element) s.old.items ≡ false) }
     ensures err { OnErr result (s.new ≡ s.old) }
 {

@@ -7,7 +7,7 @@ use Rattle.re_terms.specs.WordOrder.{pair_cmp}
 use Rattle.re_terms.specs.declared.word.Word.{Word}
 use Rattle.re_terms.specs.declared.replicated.Dot.{Dot}
 use Rattle.re_terms.specs.declared.replicated.Pair.{Pair}
-use Rattle.re_awset.specs.Inserting.{with_insert}
+use Rattle.re_terms.specs.UpdateStates.{pairs_after}
 use Rattle.re_awset.proofs.Kept.{insert-ascends, insert-devices, join-ascends, join-devices, none-ascends}
 use Rattle.re_awset.proofs.tests.set_of.Goals as goal
 
@@ -20,7 +20,7 @@ empty-devices s e = subst (λ l. HasDevices l.items) (sym e) (All-nil (λ (p : P
 empty-ascends : (s : Listed Pair) → s ≡ plain [] → IsStrictlySortedBy pair_cmp s.items
 empty-ascends s e = subst (λ l. IsStrictlySortedBy pair_cmp l.items) (sym e) none-ascends
 
-one-devices : (ps : List Pair) (s : Listed Pair) (e : Word) (d : Dot) → s ≡ plain [] → d.device < 16 → ps ≡ with_insert s.items e d → HasDevices ps
+one-devices : (ps : List Pair) (s : Listed Pair) (e : Word) (d : Dot) → s ≡ plain [] → d.device < 16 → ps ≡ pairs_after d e s.items → HasDevices ps
 one-devices ps s e d h l k = subst HasDevices (sym k) (insert-devices e d s.items l (empty-devices s h))
 
 pub loop-pair-init : goal.loop-pair-init
