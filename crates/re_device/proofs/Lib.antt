@@ -1,3 +1,4 @@
 pub mod Entering
 pub mod Placed
+pub mod Reading
 pub mod Starting

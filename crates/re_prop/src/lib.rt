@@ -7,7 +7,7 @@ mod effects;
 mod names;
 mod prepared;
 mod propagation;
-mod view;
+pub mod view;
 mod walk;
 
 pub use cache::Cache;

@@ -1,0 +1,76 @@
+-- The words that are read of a device.
+use Rattle.std.proofs.Common.{◌≡◌, ◌<◌, ◌≤◌, ◌+◌, ℕ, Bool, true, false, cond, Option, None, Some, List, length, get_or, refl, sym, ap, subst, ◌∙◌, arith}
+use Rattle.std.specs.Prelude.{slice_get, slice_index, slice_index_or}
+use Rattle.std.specs.Option.{option_map_or}
+use Rattle.std.proofs.lemmas.List.FromFn.{length-map-range_with_len, get_or-map-range_with_len}
+use Rattle.std.proofs.lemmas.Option.{slice_get_within}
+use Rattle.re_terms.specs.declared.word.Word.{Word}
+use Rattle.re_terms.specs.declared.word.Kind.{Kind}
+use Rattle.re_terms.specs.declared.expr.Expr.{Expr}
+use Rattle.re_terms.specs.declared.program.Body.{Body}
+use Rattle.re_terms.specs.declared.program.Body.TheVariants as body
+use Rattle.re_terms.specs.declared.program.Decl.{Decl}
+use Rattle.re_terms.specs.declared.program.Program.{Program}
+use Rattle.re_terms.specs.Dependencies.{below}
+use Rattle.re_terms.specs.Propagation.{is_signal_at, is_signal_body}
+use Rattle.re_terms.specs.Signal.{is_cell_body, cell_place}
+use Rattle.re_terms.specs.SignalWords.{no_word, replicated_place, body_word, place_word, signal_word}
+use Rattle.re_terms.specs.Views.{View}
+use Rattle.re_prop.specs.Caching.{cached_word, signal_words}
+use Rattle.re_prop.proofs.Before.{signal_word-own, kept_word}
+use Rattle.re_device.specs.Placing.{at_each}
+use Rattle.re_device.proofs.Placed.{at_each-at}
+
+-- the word of a declaration whose word doesn't depend on others
+pub own_word : (p : Program) (cells : List Word) (view : View) (id : ℕ) (d : Decl) (w : Word) → slice_get p.decls.items id ≡ Some d → ((words : ℕ → Word) → body_word p.decls.items cells view id d.body words ≡ w) → w ≡ signal_word p cells view id
+own_word p cells view id d w at each = sym (signal_word-own p cells view id d at ∙ each (below no_word (place_word p.decls.items cells view) id))
+
+signal_at : (decls : List Decl) (id : ℕ) (d : Decl) → slice_get decls id ≡ Some d → is_signal_body d.body ≡ true → is_signal_at decls id ≡ true
+signal_at decls id d at signal = ap (λ o. option_map_or (λ x. is_signal_body x.body) o false) at ∙ signal
+
+-- the word that is kept of a signal
+pub kept_signal : (p : Program) (cells : List Word) (view : View) (id : ℕ) (d : Decl) → slice_get p.decls.items id ≡ Some d → is_signal_body d.body ≡ true → slice_index_or (signal_words p cells view) id no_word ≡ signal_word p cells view id
+kept_signal p cells view id d at signal =
+    get_or-map-range_with_len (cached_word p cells view) 0 (length p.decls.items) id id no_word (slice_get_within p.decls.items id d at) (omega arith)
+    ∙ ap (λ b. cond b (signal_word p cells view id) no_word) (signal_at p.decls.items id d at signal)
+
+pub length-signal_words : (p : Program) (cells : List Word) (view : View) → length (signal_words p cells view) ≡ length p.decls.items
+length-signal_words p cells view = length-map-range_with_len (cached_word p cells view) 0 (length p.decls.items)
+
+-- neither a var, fold, counter, register nor signal
+pub record IsOther (b : Body) : Type 0 where
+  pub var : (kind : Kind) (start : Word) (region : ℕ) → b ≡ body.Var kind start region → ⊥
+  pub fold : (kind : Kind) (start : Word) (source : ℕ) (expr : Expr) (region : ℕ) → b ≡ body.Fold kind start source expr region → ⊥
+  pub counter : b ≡ body.Counter → ⊥
+  pub register : (kind : Kind) (start : Word) → b ≡ body.Register kind start → ⊥
+  pub signal : (kind : Kind) (expr : Expr) → b ≡ body.Signal kind expr → ⊥
+
+-- such a declaration has no word
+pub other_word : (decls : List Decl) (cells : List Word) (view : View) (id : ℕ) (b : Body) (words : ℕ → Word) → IsOther b → body_word decls cells view id b words ≡ no_word
+other_word decls cells view id body.Device words is = refl
+other_word decls cells view id body.Symbol words is = refl
+other_word decls cells view id (body.Var kind start region) words is = absurd (is.var kind start region refl)
+other_word decls cells view id (body.Event kind) words is = refl
+other_word decls cells view id (body.Signal kind expr) words is = absurd (is.signal kind expr refl)
+other_word decls cells view id (body.Changed of) words is = refl
+other_word decls cells view id (body.Map source kind expr) words is = refl
+other_word decls cells view id (body.Filter source expr) words is = refl
+other_word decls cells view id (body.Either left right) words is = refl
+other_word decls cells view id (body.Fold kind start source expr region) words is = absurd (is.fold kind start source expr region refl)
+other_word decls cells view id body.Counter words is = absurd (is.counter refl)
+other_word decls cells view id (body.Set kind) words is = refl
+other_word decls cells view id (body.Register kind start) words is = absurd (is.register kind start refl)
+
+-- the word of a var or a fold, by its kept place
+pub kept_at : (p : Program) (cells : List Word) (view : View) (places : List ℕ) (id : ℕ) (d : Decl) → slice_get p.decls.items id ≡ Some d → is_cell_body d.body ≡ true → places ≡ at_each cell_place p.decls.items → slice_index_or cells (slice_index places id) no_word ≡ signal_word p cells view id
+kept_at p cells view places id d at cell are =
+    ap (λ l. slice_index_or cells (slice_index l id) no_word) are
+    ∙ ap (λ place. slice_index_or cells place no_word) (at_each-at cell_place p.decls.items id (slice_get_within p.decls.items id d at))
+    ∙ sym (kept_word p cells view id d at cell)
+
+-- the word of a counter or a register, by its kept place
+pub seen_at : (p : Program) (cells : List Word) (view : View) (places : List ℕ) (id : ℕ) (d : Decl) → slice_get p.decls.items id ≡ Some d → ((words : ℕ → Word) → body_word p.decls.items cells view id d.body words ≡ view.word (replicated_place p.decls.items id)) → places ≡ at_each replicated_place p.decls.items → view.word (slice_index places id) ≡ signal_word p cells view id
+seen_at p cells view places id d at each are =
+    ap (λ l. view.word (slice_index l id)) are
+    ∙ ap view.word (at_each-at replicated_place p.decls.items id (slice_get_within p.decls.items id d at))
+    ∙ own_word p cells view id d (view.word (replicated_place p.decls.items id)) at each
