@@ -1,5 +1,5 @@
 //! Where the states of a program's cells stand.
-ghost use Rattle.std.specs.Prelude.{◌≡◌, ◌<◌, length, slice_index, IfOk};
+ghost use Rattle.std.specs.Prelude.{◌≡◌, ◌<◌, length, slice_index, slice_index_or, IfOk};
 ghost use Rattle.re_terms.specs.Programs.{IsProgram, is_replicated_body};
 ghost use Rattle.re_terms.specs.Signal.{is_cell_body};
 ghost use Rattle.re_device.specs.Placing.{places_of};
@@ -13,6 +13,8 @@ use std::alloc::{AllocError, Global};
 pub struct Places {
     pub words: Seq<u16>,
     pub replicated: Seq<u16>,
+    /// How many replicated cells there are.
+    pub replicated_count: u16,
 }
 
 /// Whether a declaration is a var or a fold.
@@ -45,7 +47,11 @@ impl Places {
             word_count += u16::from(has_word(&decl.body));
             replicated_count += u16::from(is_replicated(&decl.body));
         }
-        Ok(Places { words, replicated })
+        Ok(Places {
+            words,
+            replicated,
+            replicated_count,
+        })
     }
 
     /// The place of a var's or a fold's word in a state.
@@ -56,11 +62,13 @@ impl Places {
         self.words.as_slice()[id as usize] as usize
     }
 
-    /// The place of a replicated cell in a state.
+    /// The place of a replicated cell in a state; behind the last for an id that isn't declared.
     pub fn replicated(&self, id: u16) -> usize
-        requires { id < length self.now.replicated.items }
-        ensures { result ≡ slice_index self.now.replicated.items id }
+        ensures { result ≡ slice_index_or self.now.replicated.items id self.now.replicated_count }
     {
-        self.replicated.as_slice()[id as usize] as usize
+        match self.replicated.get(id as usize) {
+            Some(place) => *place as usize,
+            None => self.replicated_count as usize,
+        }
     }
 }

@@ -13,7 +13,7 @@ use Rattle.re_terms.specs.Views.{View, cell_word, view_of}
 use Rattle.re_prop.proofs.Before.{signal_word-none}
 use Rattle.re_device.specs.Device.{DeviceState}
 use Rattle.re_device.proofs.Placed.{length-at_each}
-use Rattle.re_device.proofs.Reading.{IsOther, other_word, own_word, kept_at, seen_at, kept_signal, length-signal_words}
+use Rattle.re_device.proofs.Reading.{IsOther, other_word, own_word, kept_at, replicated_at, kept_signal, length-signal_words}
 use Rattle.re_device.proofs.device.Device.word.Goals as goal
 
 none_past : (decls : List Decl) (id : ℕ) → None ≡ slice_get decls id → length decls ≤ id
@@ -32,12 +32,6 @@ word-requires c =
     let d = c.self.inside in
     let within = slice_get_within d.program.decls.items c.args.id c.in-Some.decl.now (sym c.in-Some.ensures) in
     omega (arith, within, ap (λ x. length x.words.items) c.self.invariant.places, length-at_each cell_place d.program.decls.items)
-
-pub replicated-requires : goal.replicated-requires
-replicated-requires c =
-    let d = c.self.inside in
-    let within = slice_get_within d.program.decls.items c.args.id c.in-Some.decl.now (sym c.in-Some.ensures) in
-    omega (arith, within, ap (λ x. length x.replicated.items) c.self.invariant.places, length-at_each replicated_place d.program.decls.items)
 
 pub word-requires-in-Signal : goal.word-requires-in-Signal
 word-requires-in-Signal c =
@@ -64,8 +58,8 @@ returns-in-Counter c =
     elim c.in-Counter.is [ inl e ↦ (λ words. ap (λ (b : Body). body_word decls d.state.words.items view c.args.id b words) e) | inr e ↦ (λ words. ap (λ (b : Body). body_word decls d.state.words.items view c.args.id b words) e.2) ] in
     c.word_at.ensures
     ∙ ap (λ l. cell_word (slice_get l c.replicated.result)) c.as_slice-in-Counter.ensures
-    ∙ ap view.word c.replicated.ensures
-    ∙ seen_at d.program d.state.words.items view d.places.replicated.items c.args.id c.in-Some.decl.now (sym c.in-Some.ensures) each (ap (λ x. x.replicated.items) c.self.invariant.places)
+    ∙ ap view.word (replicated_at decls d.places c.args.id c.replicated.result c.self.invariant.places c.replicated.ensures)
+    ∙ own_word d.program d.state.words.items view c.args.id c.in-Some.decl.now (view.word (replicated_place decls c.args.id)) (sym c.in-Some.ensures) each
     ∙ ap (λ (v : DeviceState). signal_word v.program v.state.words.items (view_of v.state.rep) c.args.id) c.self.view_is
 
 pub returns-in-Signal : goal.returns-in-Signal
