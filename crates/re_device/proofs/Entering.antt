@@ -11,7 +11,7 @@ use Rattle.re_terms.specs.declared.entry.Turn.{Turn}
 use Rattle.re_terms.specs.declared.program.Program.{Program}
 use Rattle.re_terms.specs.Listed.{Listed, plain}
 use Rattle.re_terms.specs.Propagation.{Step, words_after, changes, signal_changes}
-use Rattle.re_terms.specs.Signal.{is_cell, cell_place}
+use Rattle.re_terms.specs.Cells.{is_cell, cell_place}
 use Rattle.re_terms.specs.Worlds.{is_full}
 use Rattle.re_prop.specs.Caching.{put_at, put_all, put_cells, cached_word, signal_words}
 use Rattle.re_device.specs.Device.{DeviceState, turn_step, turn_entry, after_turn}

@@ -5,16 +5,16 @@ use Rattle.std.specs.List.{All, count_by, range_with_len}
 use Rattle.std.specs.Option.{option_map_or}
 use Rattle.std.proofs.lemmas.List.Elements.{All-head, All-tail, All-map, All-filter, filter_passes}
 use Rattle.std.proofs.lemmas.List.FromFn.{length-map-range_with_len, get_or-map-range_with_len}
-use Rattle.std.proofs.lemmas.Option.{slice_get_within}
+use Rattle.std.proofs.lemmas.List.Sums.{sum_by_more_le}
+use Rattle.std.proofs.lemmas.Option.{slice_get_within, get_or_from_slice_get}
 use Rattle.re_terms.specs.declared.word.Word.{Word}
 use Rattle.re_terms.specs.declared.entry.Put.{Put}
 use Rattle.re_terms.specs.declared.program.Decl.{Decl}
 use Rattle.re_terms.specs.declared.program.Program.{Program}
 use Rattle.re_terms.specs.Propagation.{Step, effect, differing, changes, signal_changes, is_cell_at, is_signal_at}
-use Rattle.re_terms.specs.Signal.{is_cell, cell_place}
+use Rattle.re_terms.specs.Cells.{is_cell, cell_place}
 use Rattle.re_terms.specs.SignalWords.{signal_word}
 use Rattle.re_terms.specs.WordOrder.{same_word}
-use Rattle.re_terms.proofs.States.{cell_place-within}
 use Rattle.re_graph.proofs.Ranges.{All-range}
 use Rattle.re_prop.specs.Caching.{put_at}
 use Rattle.re_device.specs.Placing.{at_each}
@@ -45,6 +45,14 @@ All-differing P is_wanted p s each =
     let within = All-filter test (λ id. id < n) (range_with_len 0 n) (All-range (λ id. id < n) 0 n (λ x _ below. omega (arith, below))) in
     let passes = filter_passes test (range_with_len 0 n) in
     All-map (λ (put : Put). P put.id) (λ id. record { id = id; word = (effect p s id).word }) (filter test (range_with_len 0 n)) (λ k d below. each _ (within k d below) (left_true _ _ (passes k d below)))
+
+-- the place of a cell lies within the words
+cell_place-within : (decls : List Decl) (id : ℕ) (d : Decl) → slice_get decls id ≡ Some d → is_cell d ≡ true → cell_place decls id < count_by is_cell decls
+cell_place-within decls id d found cell =
+    let at = get_or_from_slice_get decls id d d found in
+    let n : ℕ = 1 in
+    let one : cond (is_cell (get_or decls id d)) 1 0 ≡ n = ap (λ x. cond (is_cell x) 1 0) at ∙ ap (λ b. cond b 1 0) cell in
+    omega (arith, one, sum_by_more_le (λ x. cond (is_cell x) 1 0) decls id d (slice_get_within decls id d found))
 
 -- a var or a fold has a place among the words
 a_cell : (decls : List Decl) (id : ℕ) (found : Option Decl) → slice_get decls id ≡ found → option_map_or is_cell found false ≡ true → cell_place decls id < count_by is_cell decls

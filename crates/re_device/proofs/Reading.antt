@@ -17,7 +17,7 @@ use Rattle.re_terms.specs.declared.program.Program.{Program}
 use Rattle.re_terms.specs.Dependencies.{below}
 use Rattle.re_terms.specs.Programs.{is_replicated}
 use Rattle.re_terms.specs.Propagation.{is_signal_at, is_signal_body}
-use Rattle.re_terms.specs.Signal.{is_cell_body, cell_place}
+use Rattle.re_terms.specs.Cells.{is_cell_body, cell_place}
 use Rattle.re_terms.specs.SignalWords.{no_word, replicated_place, body_word, place_word, signal_word}
 use Rattle.re_terms.specs.Views.{View}
 use Rattle.re_prop.specs.Caching.{cached_word, signal_words}

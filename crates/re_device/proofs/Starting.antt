@@ -18,7 +18,7 @@ use Rattle.re_terms.specs.declared.replicated.RKind.{RKind}
 use Rattle.re_terms.specs.declared.replicated.RKind.TheVariants as replicated
 use Rattle.re_terms.specs.declared.replicated.Shape.{Shape}
 use Rattle.re_terms.specs.Shapes.{AreOfDevices, FitsKind, FitsShape, pair_count, start_cell, start_replicated, start_word, start_words, zeros}
-use Rattle.re_terms.specs.Signal.{is_cell, is_cell_body}
+use Rattle.re_terms.specs.Cells.{is_cell, is_cell_body}
 
 -- each var and each fold has one start word
 one_word : (b : Body) (rest : List Word) → length (cons_option (start_word b) rest) ≡ cond (is_cell_body b) 1 0 + length rest

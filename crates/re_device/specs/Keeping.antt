@@ -5,7 +5,7 @@ use Rattle.re_terms.specs.Admission.{device_count}
 use Rattle.re_terms.specs.Dependencies.{graph_of}
 use Rattle.re_terms.specs.Programs.{IsProgram}
 use Rattle.re_terms.specs.Shapes.{FitsShape, shape_of}
-use Rattle.re_terms.specs.Signal.{is_cell}
+use Rattle.re_terms.specs.Cells.{is_cell}
 use Rattle.re_terms.specs.Views.{view_of}
 use Rattle.re_prop.specs.Caching.{signal_words}
 use Rattle.re_device.specs.Placing.{places_of}

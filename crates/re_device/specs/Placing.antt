@@ -5,7 +5,7 @@ use Rattle.std.specs.Prelude.{ℕ, List, length, map, count_by}
 use Rattle.std.specs.List.{range_with_len}
 use Rattle.re_terms.specs.Listed.{plain}
 use Rattle.re_terms.specs.Programs.{is_replicated}
-use Rattle.re_terms.specs.Signal.{cell_place}
+use Rattle.re_terms.specs.Cells.{cell_place}
 use Rattle.re_terms.specs.SignalWords.{replicated_place}
 use Rattle.re_terms.specs.declared.program.Decl.{Decl}
 use Rattle.re_device.specs.declared.places.Places.{Places}

@@ -1,7 +1,7 @@
 //! Where the states of a program's cells stand.
 ghost use Rattle.std.specs.Prelude.{◌≡◌, ◌<◌, length, slice_index, slice_index_or, IfOk};
 ghost use Rattle.re_terms.specs.Programs.{IsProgram, is_replicated_body};
-ghost use Rattle.re_terms.specs.Signal.{is_cell_body};
+ghost use Rattle.re_terms.specs.Cells.{is_cell_body};
 ghost use Rattle.re_device.specs.Placing.{places_of};
 
 use re_terms::{Body, Program, Seq};

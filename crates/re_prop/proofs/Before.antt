@@ -1,7 +1,9 @@
 -- The words before an entry, by their places.
-use Rattle.std.proofs.Common.{◌≡◌, ◌<◌, ◌≤◌, ◌+◌, ℕ, Bool, true, false, List, length, get_or, refl, sym, ap, ◌∙◌, arith}
-use Rattle.std.specs.Prelude.{Some, nat_lt, slice_get, slice_index_or}
+use Rattle.std.proofs.Common.{◌≡◌, ◌<◌, ◌≤◌, ◌+◌, ℕ, Bool, true, false, List, map, length, get_or, refl, sym, ap, ◌∙◌, arith}
+use Rattle.std.specs.Prelude.{if◌then◌else◌, Some, nat_lt, slice_get, slice_index_or}
 use Rattle.std.specs.Option.{option_map_or}
+use Rattle.std.specs.List.{range_with_len}
+use Rattle.std.proofs.Math.Path.{fun_ext}
 use Rattle.std.proofs.lemmas.Bool.{ltb-true, ltb-false}
 use Rattle.std.proofs.lemmas.List.{get_or_past}
 use Rattle.std.proofs.lemmas.Option.{slice_get_within}
@@ -13,10 +15,12 @@ use Rattle.re_terms.specs.declared.program.Body.TheVariants as body
 use Rattle.re_terms.specs.declared.program.Decl.{Decl}
 use Rattle.re_terms.specs.declared.program.Program.{Program}
 use Rattle.re_terms.specs.Dependencies.{below}
+use Rattle.re_terms.specs.Propagation.{is_signal_at, is_signal_body}
 use Rattle.re_terms.specs.Signal.{is_cell_body, cell_place}
 use Rattle.re_terms.specs.SignalWords.{no_word, body_word, place_word, signal_word}
 use Rattle.re_terms.specs.Views.{View, view_of}
-use Rattle.re_graph.proofs.Own.{below-none, below-own}
+use Rattle.re_graph.proofs.Own.{below-none, below-own, below-places}
+use Rattle.re_prop.specs.Caching.{cached_word, signal_words}
 use Rattle.re_prop.specs.Effects.{words_before}
 
 never : false ≡ true → ⊥
@@ -60,3 +64,38 @@ cell_body decls cells view id (body.Register kind start) words h = absurd (never
 -- a var or a fold has the word that is kept for it
 pub kept_word : (p : Program) (cells : List Word) (view : View) (id : ℕ) (d : Decl) → slice_get p.decls.items id ≡ Some d → is_cell_body d.body ≡ true → signal_word p cells view id ≡ slice_index_or cells (cell_place p.decls.items id) no_word
 kept_word p cells view id d at cell = signal_word-own p cells view id d at ∙ cell_body p.decls.items cells view id d.body (below no_word (place_word p.decls.items cells view) id) cell
+
+-- a signal's word among these; no word for any other declaration
+abbrev pub signal_only : List Decl → List Word → ℕ → Word
+signal_only decls words id = if is_signal_at decls id then slice_index_or words id no_word else no_word
+
+pub length-signal_words : (p : Program) (cells : List Word) (view : View) → length (signal_words p cells view) ≡ length p.decls.items
+length-signal_words p cells view = length-map-range_with_len (cached_word p cells view) 0 (length p.decls.items)
+
+-- the word of a signal is kept
+pub cached_at : (p : Program) (cells : List Word) (view : View) (id : ℕ) (d : Decl) (kept : List Word) → kept ≡ signal_words p cells view → slice_get p.decls.items id ≡ Some d → is_signal_body d.body ≡ true → slice_index_or kept id no_word ≡ signal_word p cells view id
+cached_at p cells view id d kept is at signal =
+    ap (λ ws. slice_index_or ws id no_word) is
+    ∙ get_or-map-range_with_len (cached_word p cells view) 0 (length p.decls.items) id id no_word (slice_get_within p.decls.items id d at) (omega arith)
+    ∙ ap (λ found. if option_map_or (λ d. is_signal_body d.body) found false then signal_word p cells view id else no_word) at
+    ∙ ap (λ b. if b then signal_word p cells view id else no_word) signal
+
+so_far_by : (p : Program) (cells : List Word) (view : View) (n name : ℕ) → n ≤ length p.decls.items → (b : Bool) → nat_lt name n ≡ b → slice_index_or (map (signal_word p cells view) (range_with_len 0 n)) name no_word ≡ below no_word (place_word p.decls.items cells view) n name
+so_far_by p cells view n name within true is =
+    let before : name < n = ltb-true name n is in
+    get_or-map-range_with_len (signal_word p cells view) 0 n name name no_word before (omega arith)
+    ∙ below-places no_word (place_word p.decls.items cells view) (length p.decls.items) n name (omega arith) before
+so_far_by p cells view n name within false is =
+    let behind : n ≤ name = ltb-false name n is in
+    get_or_past (map (signal_word p cells view) (range_with_len 0 n)) name no_word (omega (arith, behind, length-map-range_with_len (signal_word p cells view) 0 n))
+    ∙ sym (below-none no_word (place_word p.decls.items cells view) n name behind)
+
+-- the words of the first declarations are those that the next one is made of
+pub words_so_far : (p : Program) (cells : List Word) (view : View) (n : ℕ) (words : List Word) → n ≤ length p.decls.items → words ≡ map (signal_word p cells view) (range_with_len 0 n) → (λ name. slice_index_or words name no_word) ≡ below no_word (place_word p.decls.items cells view) n
+words_so_far p cells view n words within is = fun_ext (λ name. ap (λ ws. slice_index_or ws name no_word) is ∙ so_far_by p cells view n name within (nat_lt name n) refl)
+
+-- one declaration more
+pub next_word : (p : Program) (cells : List Word) (view : View) (n : ℕ) (d : Decl) (words : List Word) (w : Word) → slice_get p.decls.items n ≡ Some d → words ≡ map (signal_word p cells view) (range_with_len 0 n) → w ≡ body_word p.decls.items cells view n d.body (λ name. slice_index_or words name no_word) → w ≡ signal_word p cells view n
+next_word p cells view n d words w at so_far is =
+    let within : n < length p.decls.items = slice_get_within p.decls.items n d at in
+    is ∙ ap (body_word p.decls.items cells view n d.body) (words_so_far p cells view n words (omega arith) so_far) ∙ sym (signal_word-own p cells view n d at)

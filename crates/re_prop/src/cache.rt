@@ -8,6 +8,7 @@ ghost use Rattle.re_terms.specs.SignalWords.{no_word};
 ghost use Rattle.re_terms.specs.Views.{view_of};
 ghost use Rattle.re_prop.specs.Caching.{put_all, signal_words};
 
+use crate::words::evaluated;
 use re_terms::{Program, Put, Seq, State, Word};
 use std::alloc::{AllocError, Global};
 use std::marker::Model;
@@ -37,7 +38,9 @@ impl Cache {
         requires rep { FitsShape (shape_of p.now) s.now.rep }
         ensures { IfOk result (λ cache. cache ≡ signal_words p.now s.now.words.items (view_of s.now.rep)) }
     {
-        Err(AllocError)
+        Ok(Cache {
+            words: evaluated(alloc, p, s)?,
+        })
     }
 
     /// The word of a signal, and 0 for any other declaration.

@@ -3,12 +3,15 @@
 
 mod bodies;
 mod cache;
+mod chosen;
 mod effects;
 mod names;
 mod prepared;
 mod propagation;
+pub mod sizes;
 pub mod view;
 mod walk;
+mod words;
 
 pub use cache::Cache;
 pub use prepared::Prepared;

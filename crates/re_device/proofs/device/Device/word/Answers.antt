@@ -7,7 +7,7 @@ use Rattle.re_terms.specs.declared.program.Body.{Body}
 use Rattle.re_terms.specs.declared.program.Body.TheVariants as body
 use Rattle.re_terms.specs.declared.program.Decl.{Decl}
 use Rattle.re_terms.specs.Propagation.{is_signal_body}
-use Rattle.re_terms.specs.Signal.{is_cell_body, cell_place}
+use Rattle.re_terms.specs.Cells.{is_cell_body, cell_place}
 use Rattle.re_terms.specs.SignalWords.{body_word, no_word, replicated_place, signal_word}
 use Rattle.re_terms.specs.Views.{View, cell_word, view_of}
 use Rattle.re_prop.proofs.Before.{signal_word-none}

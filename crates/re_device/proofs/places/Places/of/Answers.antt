@@ -7,7 +7,7 @@ use Rattle.std.proofs.lemmas.List.Sums.{sum_by_more}
 use Rattle.re_terms.specs.declared.program.Decl.{Decl}
 use Rattle.re_terms.specs.Listed.{Listed, plain}
 use Rattle.re_terms.specs.Programs.{is_replicated}
-use Rattle.re_terms.specs.Signal.{is_cell, cell_place}
+use Rattle.re_terms.specs.Cells.{is_cell, cell_place}
 use Rattle.re_terms.specs.SignalWords.{replicated_place}
 use Rattle.re_device.proofs.places.Places.of.Goals as goal
 

@@ -2,7 +2,7 @@
 use Rattle.std.proofs.Common.{◌≡◌, length, map}
 use Rattle.std.specs.List.{range_with_len}
 use Rattle.re_terms.specs.Listed.{plain}
-use Rattle.re_terms.specs.Signal.{cell_place}
+use Rattle.re_terms.specs.Cells.{cell_place}
 use Rattle.re_terms.specs.SignalWords.{replicated_place}
 use Rattle.re_device.proofs.places.Places.of.Given as goal
 

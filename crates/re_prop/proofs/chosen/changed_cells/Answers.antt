@@ -1,0 +1,5 @@
+use Rattle.std.proofs.Common.{◌∙◌}
+use Rattle.re_prop.proofs.chosen.changed_cells.Goals as goal
+
+pub marking-preserved : goal.marking-preserved
+marking-preserved c = ?
