@@ -4,7 +4,7 @@ use Rattle.std.specs.Prelude.{slice_get, slice_index, slice_index_or}
 use Rattle.std.specs.List.{count_by}
 use Rattle.std.specs.Option.{option_map_or}
 use Rattle.std.proofs.lemmas.Bool.{cases_lt}
-use Rattle.std.proofs.lemmas.List.{get_or_past}
+use Rattle.std.proofs.lemmas.List.{get_or_past, take_all}
 use Rattle.std.proofs.lemmas.List.FromFn.{length-map-range_with_len, get_or-map-range_with_len}
 use Rattle.std.proofs.lemmas.Option.{slice_get_within}
 use Rattle.re_terms.specs.declared.word.Word.{Word}
@@ -77,7 +77,7 @@ place_by : (decls : List Decl) (id : ℕ) → (id < length decls) ⊎ (length de
 place_by decls id (inl within) = get_or-map-range_with_len (replicated_place decls) 0 (length decls) id id (count_by is_replicated decls) within (omega arith)
 place_by decls id (inr past) =
     get_or_past (at_each replicated_place decls) id (count_by is_replicated decls) (omega (arith, past, length-at_each replicated_place decls))
-    ∙ ap (count_by is_replicated) (sym (take-all id decls past))
+    ∙ ap (count_by is_replicated) (sym (take_all id decls past))
 
 -- the place of a replicated cell, from what is kept
 pub replicated_at : (decls : List Decl) (places : Places) (id place : ℕ) → places ≡ places_of decls → place ≡ slice_index_or places.replicated.items id places.replicated_count → place ≡ replicated_place decls id

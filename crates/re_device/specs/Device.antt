@@ -3,8 +3,11 @@
 -- the turn x = 5 gives it the words 5 and 1, the number 1, and an entry with these two changes; x = 5 once more keeps the words, and gives the number 2 and an entry without changes.
 use Rattle.std.specs.Prelude.{ℕ, ◌+◌, List, [], ◌∷◌, ◌++◌}
 use Rattle.re_terms.specs.Listed.{plain}
+use Rattle.re_eval.specs.Told.{Told}
 use Rattle.re_terms.specs.Propagation.{Step, step_in, words_after, changes}
 use Rattle.re_terms.specs.Shapes.{start_state}
+use Rattle.re_terms.specs.SignalWords.{replicated_place, signal_word}
+use Rattle.re_terms.specs.Views.{view_of}
 use Rattle.re_terms.specs.declared.entry.Entry.TheVariants as entry
 use Rattle.re_terms.specs.declared.entry.Logged.{Logged}
 use Rattle.re_terms.specs.declared.entry.State.{State}
@@ -40,4 +43,12 @@ after_turn d t = record {
   state = record { words = plain (words_after d.program (turn_step d t)); rep = d.state.rep };
   number = d.number + 1;
   entries = d.entries ++ turn_entry d t ∷ [];
+}
+
+-- what a device tells an expression of: the words, and the sizes and members of sets
+abbrev pub told_of : DeviceState → Told
+told_of d = record {
+  word = signal_word d.program d.state.words.items (view_of d.state.rep);
+  size = λ id. (view_of d.state.rep).size (replicated_place d.program.decls.items id);
+  has = λ id. (view_of d.state.rep).has (replicated_place d.program.decls.items id);
 }

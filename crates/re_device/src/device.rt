@@ -154,6 +154,20 @@ impl Device {
         }
     }
 
+    /// How many elements a set has, and 0 for any other id. It takes no memory.
+    pub(crate) fn size(&self, id: u16) -> u32
+        ensures { result ≡ (told_of self.now).size id }
+    {
+        size_at(self.state.rep.cells.as_slice(), self.places.replicated(id))
+    }
+
+    /// Whether a set has the element, and false for any other id. It takes no memory.
+    pub(crate) fn has(&self, id: u16, word: Word) -> bool
+        ensures { result ≡ (told_of self.now).has id word }
+    {
+        has_at(self.state.rep.cells.as_slice(), self.places.replicated(id), word)
+    }
+
     /// The number of its last entry, and 0 before any.
     pub fn number(&self) -> u64
         ensures { result ≡ self.now.number }

@@ -2,6 +2,7 @@
 #![tactic(auto)]
 
 mod device;
+mod env;
 mod fault;
 mod places;
 
