@@ -8,8 +8,8 @@ mod effects;
 mod names;
 mod prepared;
 mod propagation;
-mod sizes;
-mod view;
+pub mod sizes;
+pub mod view;
 mod walk;
 mod words;
 
