@@ -161,15 +161,23 @@ module _ (shape : Shape) (log us : List Update) (causal : IsCausalLog log) (with
             }
       ]
 
+  row_places : (f : Act → ℕ) (place : ℕ) → length (row_of f place us) ≡ 16
+  unfolding row_of
+  row_places f place = length-by_device (λ device. sum_by (part_of f place device) us)
+
+  count_places : length (vector_of us) ≡ 16
+  unfolding vector_of
+  count_places = length-by_device (λ device. greatest_number device us)
+
   kind_fits : (place : ℕ) (k : RKind) → slice_get shape.cells.items place ≡ Some k → IsWithin (content_of k place us) → FitsKind shape (vector_of us) k (content_of k place us)
-  kind_fits place kind.Counter found h = (record { bounded = h.0; none = no_row increment place }, record { bounded = h.1; none = no_row decrement place })
+  kind_fits place kind.Counter found h = (record { places = row_places increment place; bounded = h.0; none = no_row increment place }, record { places = row_places decrement place; bounded = h.1; none = no_row decrement place })
   kind_fits place (kind.Set k) found h = (pairs_ascend AddWins place us, set_fits place k found)
   kind_fits place (kind.Register k start) found h = register_fits place k start found h
 
   pub state_fits : IsWithinLimits (state_of_updates shape us) → FitsShape shape (state_of_updates shape us)
   state_fits limits =
       record {
-        counts = record { bounded = limits.counts; none = no_counts };
+        counts = record { places = count_places; bounded = limits.counts; none = no_counts };
         count = contents-length shape.cells.items 0 us;
         cells = λ place k c found is.
             let here : slice_get (contents_from 0 shape.cells.items us) place ≡ Some (content_of k place us) = content_at shape.cells.items 0 place us ∙ ap (option_map (λ k. content_of k (0 + place) us)) found ∙ ap (λ n. Some (content_of k n us)) (omega arith) in

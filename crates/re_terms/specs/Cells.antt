@@ -1,13 +1,9 @@
 -- Vars and folds, whose words a state keeps.
 -- Read against: in `device a; var x: int = 2; signal s = x; fold n: int = 0 on e do self;` x and n are kept, x's word in place 0 and n's in place 1.
-use Rattle.std.specs.Prelude.{ℕ, zero, suc, pos, ◌==◌, Bool, true, false, List, Option, None, Some, if◌then◌else◌, take, length, slice_get, slice_index_or, count_by}
-use Rattle.re_terms.specs.declared.word.Word.{Word}
-use Rattle.re_terms.specs.declared.word.Word.TheVariants as word
+use Rattle.std.specs.Prelude.{ℕ, Bool, true, false, List, take, count_by}
 use Rattle.re_terms.specs.declared.program.Body.{Body}
 use Rattle.re_terms.specs.declared.program.Body.TheVariants as body
 use Rattle.re_terms.specs.declared.program.Decl.{Decl}
-use Rattle.re_terms.specs.declared.program.Program.{Program}
-use Rattle.re_terms.specs.Meaning.{Environment, meaning}
 
 -- a var or a fold: its word is kept in the state
 abbrev pub is_cell_body : Body → Bool
