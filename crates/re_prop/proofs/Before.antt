@@ -99,3 +99,15 @@ pub next_word : (p : Program) (cells : List Word) (view : View) (n : ℕ) (d : D
 next_word p cells view n d words w at so_far is =
     let within : n < length p.decls.items = slice_get_within p.decls.items n d at in
     is ∙ ap (body_word p.decls.items cells view n d.body) (words_so_far p cells view n words (omega arith) so_far) ∙ sym (signal_word-own p cells view n d at)
+
+pub signal_only_at : (decls : List Decl) (words : List Word) (id : ℕ) (d : Decl) (w v : Word) → slice_get decls id ≡ Some d → w ≡ slice_index_or words id no_word → v ≡ (if is_signal_body d.body then w else no_word) → v ≡ signal_only decls words id
+signal_only_at decls words id d w v at found is =
+    is
+    ∙ ap (λ found. if option_map_or (λ d. is_signal_body d.body) found false then w else no_word) (sym at)
+    ∙ ap (λ w. if is_signal_at decls id then w else no_word) found
+
+-- the words of the signals among all words are those of the signals
+pub signals_are : (p : Program) (s : State) (decls : List Decl) (words : List Word) → decls ≡ p.decls.items → words ≡ words_before p s → map (signal_only decls words) (range_with_len 0 (length decls)) ≡ signal_words p s.words.items (view_of s.rep)
+signals_are p s decls words same is =
+    ap (λ ds. map (signal_only ds words) (range_with_len 0 (length ds))) same
+    ∙ ap (λ f. map f (range_with_len 0 (length p.decls.items))) (fun_ext (λ id. ap (λ w. if is_signal_at p.decls.items id then w else no_word) (word_before_at p s words id is)))

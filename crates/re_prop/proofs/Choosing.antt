@@ -1,11 +1,13 @@
 -- Words of chosen declarations, up to a place.
 use Rattle.std.proofs.Common.{◌≡◌, ◌<◌, ◌+◌, ◌-◌, ℕ, Bool, true, false, ◌&&◌, List, [], ◌∷◌, ◌++◌, map, length, get_or, refl, sym, ap, ◌∙◌, arith}
 use Rattle.std.specs.Prelude.{Some, slice_get, filter, not, slice_index_or}
+use Rattle.std.specs.Option.{option_map_or}
 use Rattle.std.specs.List.{range_with_len}
 use Rattle.std.proofs.lemmas.List.{map-append}
 use Rattle.std.proofs.lemmas.List.FromFn.{map-range_with_len_more}
 use Rattle.std.proofs.lemmas.Option.{slice_get_read}
 use Rattle.re_terms.specs.declared.word.Word.{Word}
+use Rattle.re_terms.specs.declared.program.Decl.{Decl}
 use Rattle.re_terms.specs.declared.entry.Put.{Put}
 use Rattle.re_terms.specs.Listed.{Listed, plain}
 use Rattle.re_terms.specs.SignalWords.{no_word}
@@ -41,3 +43,11 @@ range_push f xs n x so_far is = ap (λ ys. ys ++ x ∷ []) so_far ∙ ap (λ y. 
 -- an item that is read from a list
 pub item_at : {X : Type 0} (xs read : List X) (i : ℕ) (x : X) → read ≡ xs → i < length read → x ≡ get_or read i x → slice_get xs i ≡ Some x
 item_at xs read i x same within is = ap (λ ys. slice_get ys i) (sym same) ∙ slice_get_read read (length read) i x refl within is
+
+-- whether the words of a wanted declaration differ
+pub differs_is : (test : Decl → Bool) (decls : List Decl) (old new : List Word) (id : ℕ) (d : Decl) (a b : Word) (v : Bool) → slice_get decls id ≡ Some d → a ≡ slice_index_or old id no_word → b ≡ slice_index_or new id no_word → v ≡ (test d && not (same_word a b)) → v ≡ differs_at (λ id. option_map_or test (slice_get decls id) false) old new id
+differs_is test decls old new id d a b v at first second is =
+    is
+    ∙ ap (λ found. option_map_or test found false && not (same_word a b)) (sym at)
+    ∙ ap (λ w. option_map_or test (slice_get decls id) false && not (same_word w b)) first
+    ∙ ap (λ w. option_map_or test (slice_get decls id) false && not (same_word (slice_index_or old id no_word) w)) second

@@ -1,3 +1,5 @@
 pub mod Before
 pub mod Choosing
+pub mod Distinct
+pub mod Fits
 pub mod Givens

@@ -121,18 +121,20 @@ fn all<L: Ledger>(
     Ok(words)
 }
 
+/// The word where the declaration is a signal, and 0 where it isn't.
+fn of_signal(decl: &Decl, word: Word) -> Word
+    ensures { result ≡ (if is_signal_body decl.now.body then word else no_word) }
+{
+    if is_signal(&decl.body) { word } else { NO_WORD }
+}
+
 /// The words of the signals alone, and 0 for all other declarations. The one refusal is want of memory.
 fn signals(alloc: Global, decls: &[Decl], words: &[Word]) -> Result<Vec<Word>, AllocError>
-    requires { length words.now ≡ length decls.now }
     ensures { IfOk result (λ found. found.items ≡ map (λ id. if is_signal_at decls.now id then slice_index_or words.now id no_word else no_word) (range_with_len 0 (length decls.now))) }
 {
     let mut found = Vec::new(alloc);
     'finding: for (id, decl) in decls.iter().enumerate() {
-        found.push(if is_signal(&decl.body) {
-            words[id]
-        } else {
-            NO_WORD
-        })?;
+        found.push(of_signal(decl, word_in(words, id)))?;
     }
     Ok(found)
 }
