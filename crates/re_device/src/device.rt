@@ -10,13 +10,13 @@ ghost use Rattle.re_terms.specs.SignalWords.{signal_word};
 ghost use Rattle.re_terms.specs.Views.{view_of};
 ghost use Rattle.re_terms.specs.Worlds.{is_full};
 ghost use Rattle.re_prop.specs.Caching.{put_at};
-ghost use Rattle.re_device.specs.Device.{started, after_turn};
+ghost use Rattle.re_device.specs.Device.{started, told_of, after_turn};
 
 use crate::fault::{DeviceFault, Done};
 use crate::places::Places;
 use re_eval::Steps;
 use re_graph::Graph;
-use re_prop::view::{NO_WORD, word_at, word_in};
+use re_prop::view::{NO_WORD, has_at, word_at, word_in};
 use re_prop::{Cache, Prepared, propagate};
 use re_terms::{Admitted, Body, Entry, Logged, Program, Put, Seq, State, Word};
 use std::alloc::{AllocError, Global};
@@ -152,13 +152,6 @@ impl Device {
             Body::Signal { .. } => self.cache.word(id),
             _ => NO_WORD,
         }
-    }
-
-    /// How many elements a set has, and 0 for any other id. It takes no memory.
-    pub(crate) fn size(&self, id: u16) -> u32
-        ensures { result ≡ (told_of self.now).size id }
-    {
-        size_at(self.state.rep.cells.as_slice(), self.places.replicated(id))
     }
 
     /// Whether a set has the element, and false for any other id. It takes no memory.

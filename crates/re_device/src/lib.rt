@@ -2,7 +2,6 @@
 #![tactic(auto)]
 
 mod device;
-mod env;
 mod fault;
 mod places;
 

@@ -66,9 +66,8 @@ impl Places {
     pub fn replicated(&self, id: u16) -> usize
         ensures { result ≡ slice_index_or self.now.replicated.items id self.now.replicated_count }
     {
-        match self.replicated.get(id as usize) {
-            Some(place) => *place as usize,
-            None => self.replicated_count as usize,
-        }
+        let places = self.replicated.as_slice();
+        let place = places.get(id as usize).copied();
+        place.unwrap_or(self.replicated_count) as usize
     }
 }
