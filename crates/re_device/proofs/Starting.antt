@@ -60,7 +60,7 @@ zeros_of devices bound some = record {
 start_cell-fits : (shape : Shape) (k : RKind) → FitsKind shape zeros k (start_cell k)
 unfolding IsStrictlySortedBy
 start_cell-fits shape replicated.Counter = (zeros_of shape.devices (2 ^ 63) (omega arith), zeros_of shape.devices (2 ^ 63) (omega arith))
-start_cell-fits shape (replicated.Set k) = (tt, refl)
+start_cell-fits shape (replicated.Set k) = (tt, refl, refl)
 start_cell-fits shape (replicated.Register k start) = record {
   bounded = omega arith;
   unwritten = λ _. (refl, refl);
@@ -85,6 +85,7 @@ no_pairs (k ∷ kinds) = omega (arith, sum_by-cons pair_count (start_cell k) (ma
 -- the replicated state at the start has the shape
 pub start_replicated-fits : (shape : Shape) → FitsShape shape (start_replicated shape)
 start_replicated-fits shape = record {
+  plain = refl;
   counts = zeros_of shape.devices (2 ^ 48) (omega arith);
   count = length-map shape.cells.items start_cell;
   cells = start_cell-fits_at shape shape.cells.items;

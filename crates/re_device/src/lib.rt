@@ -4,6 +4,8 @@
 mod device;
 mod fault;
 mod places;
+#[cfg(test)]
+mod tests;
 
 pub use device::Device;
 pub use fault::{DeviceFault, Done};

@@ -1,0 +1,41 @@
+-- Small programs for tests, whose declarations are named by the letters a, b, c and so on.
+-- Read against: `counting` is `device a; var b: int = 1; event c = changed(b); fold d: int = 0 on c do self + 1;`: a turn that sets b to 5 gives d the word 1.
+use Rattle.std.specs.Prelude.{ℕ, ◌+◌, pos, List, [], ◌∷◌}
+use Rattle.re_terms.specs.Listed.{plain}
+use Rattle.re_terms.specs.declared.word.Word.{Word}
+use Rattle.re_terms.specs.declared.word.Word.TheVariants as word
+use Rattle.re_terms.specs.declared.word.Kind.TheVariants as kind
+use Rattle.re_terms.specs.declared.expr.Op.TheVariants as op
+use Rattle.re_terms.specs.declared.expr.Expr.{Expr, roll-Expr}
+use Rattle.re_terms.specs.declared.expr.Expr.TheOpen.{Lit, Own, Bin}
+use Rattle.re_terms.specs.declared.program.Body.{Body}
+use Rattle.re_terms.specs.declared.program.Body.TheVariants as body
+use Rattle.re_terms.specs.declared.program.Decl.{Decl}
+use Rattle.re_terms.specs.declared.program.Program.{Program}
+
+-- a declaration whose name is one letter
+abbrev pub named : ℕ → Body → Decl
+named letter b = record { name = plain (letter ∷ []); body = b }
+
+-- declarations named by one letter behind the other
+abbrev pub lettered : ℕ → List Body → List Decl
+lettered letter [] = []
+lettered letter (b ∷ bodies) = named letter b ∷ lettered (letter + 1) bodies
+
+abbrev pub program_of : List Body → Program
+program_of bodies = record { decls = plain (lettered 97 bodies) }
+
+abbrev pub one : Expr
+one = roll-Expr (Lit (word.Int (pos 1)))
+
+-- a fold of ints that begins at 0
+abbrev pub fold_on : ℕ → Expr → Body
+fold_on source e = body.Fold kind.Int (word.Int (pos 0)) source e 1
+
+-- a var that is 1 at the start
+abbrev pub var : Body
+var = body.Var kind.Int (word.Int (pos 1)) 1
+
+-- a fold counts the changes of a var
+abbrev pub counting : List Body
+counting = body.Device ∷ var ∷ body.Changed 1 ∷ fold_on 2 (roll-Expr (Bin op.Add (roll-Expr Own) one)) ∷ []
