@@ -9,6 +9,8 @@ use Rattle.std.proofs.lemmas.List.{get_or_past}
 use Rattle.std.proofs.lemmas.Option.{slice_get_within}
 use Rattle.std.proofs.lemmas.List.FromFn.{length-map-range_with_len, get_or-map-range_with_len}
 use Rattle.re_terms.specs.declared.word.Word.{Word}
+use Rattle.re_terms.specs.declared.word.Kind.{Kind}
+use Rattle.re_terms.specs.declared.expr.Expr.{Expr}
 use Rattle.re_terms.specs.declared.entry.State.{State}
 use Rattle.re_terms.specs.declared.program.Body.{Body}
 use Rattle.re_terms.specs.declared.program.Body.TheVariants as body
@@ -16,7 +18,7 @@ use Rattle.re_terms.specs.declared.program.Decl.{Decl}
 use Rattle.re_terms.specs.declared.program.Program.{Program}
 use Rattle.re_terms.specs.Dependencies.{below}
 use Rattle.re_terms.specs.Propagation.{is_signal_at, is_signal_body}
-use Rattle.re_terms.specs.Signal.{is_cell_body, cell_place}
+use Rattle.re_terms.specs.Cells.{is_cell_body, cell_place}
 use Rattle.re_terms.specs.SignalWords.{no_word, body_word, place_word, signal_word}
 use Rattle.re_terms.specs.Views.{View, view_of}
 use Rattle.re_graph.proofs.Own.{below-none, below-own, below-places}
@@ -111,3 +113,18 @@ pub signals_are : (p : Program) (s : State) (decls : List Decl) (words : List Wo
 signals_are p s decls words same is =
     ap (λ ds. map (signal_only ds words) (range_with_len 0 (length ds))) same
     ∙ ap (λ f. map f (range_with_len 0 (length p.decls.items))) (fun_ext (λ id. ap (λ w. if is_signal_at p.decls.items id then w else no_word) (word_before_at p s words id is)))
+
+pub not_signal : (b : Body) → ((kind : Kind) (expr : Expr) → b ≡ body.Signal kind expr → ⊥) → is_signal_body b ≡ false
+not_signal (body.Signal kind expr) other = absurd (other kind expr refl)
+not_signal body.Device other = refl
+not_signal body.Symbol other = refl
+not_signal (body.Var kind start region) other = refl
+not_signal (body.Event kind) other = refl
+not_signal (body.Changed of) other = refl
+not_signal (body.Map source kind expr) other = refl
+not_signal (body.Filter source expr) other = refl
+not_signal (body.Either left right) other = refl
+not_signal (body.Fold kind start source expr region) other = refl
+not_signal body.Counter other = refl
+not_signal (body.Set kind) other = refl
+not_signal (body.Register kind start) other = refl

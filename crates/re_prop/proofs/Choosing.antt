@@ -51,3 +51,9 @@ differs_is test decls old new id d a b v at first second is =
     ∙ ap (λ found. option_map_or test found false && not (same_word a b)) (sym at)
     ∙ ap (λ w. option_map_or test (slice_get decls id) false && not (same_word w b)) first
     ∙ ap (λ w. option_map_or test (slice_get decls id) false && not (same_word (slice_index_or old id no_word) w)) second
+
+-- a word that is put behind those of the marked places before it
+pub put_push : (marks : List Bool) (words : List Word) (id : ℕ) (w : Word) (old new : Listed Put) → slice_index_or marks id false ≡ true → old ≡ plain (chosen_below marks words id) → w ≡ slice_index_or words id no_word → new ≡ record { items = old.items ++ (record { id = id; word = w }) ∷ []; spare = old.spare - 1 } → new ≡ plain (chosen_below marks words (id + 1))
+put_push marks words id w old new marked so_far is pushed =
+    plain_push old new (chosen_below marks words id) (chosen_below marks words (id + 1)) (record { id = id; word = w }) so_far pushed
+    (ap (λ w. chosen_below marks words id ++ (record { id = id; word = w }) ∷ []) is ∙ sym (chosen_takes marks words id marked))

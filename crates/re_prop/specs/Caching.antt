@@ -8,7 +8,7 @@ use Rattle.re_terms.specs.declared.entry.Put.{Put}
 use Rattle.re_terms.specs.declared.program.Decl.{Decl}
 use Rattle.re_terms.specs.declared.program.Program.{Program}
 use Rattle.re_terms.specs.Propagation.{is_signal_at}
-use Rattle.re_terms.specs.Signal.{cell_place}
+use Rattle.re_terms.specs.Cells.{cell_place}
 use Rattle.re_terms.specs.SignalWords.{no_word, signal_word}
 use Rattle.re_terms.specs.Views.{View}
 

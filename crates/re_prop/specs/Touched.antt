@@ -3,13 +3,13 @@
 -- whether or not a word changes, and a merge that brings a pair to s and nothing else touches 4 alone.
 use Rattle.std.specs.Prelude.{ℕ, nat_eq, ◌==◌, ◌&&◌, ◌||◌, Bool, true, false, not, List, Option, None, Some, filter, length, slice_get}
 use Rattle.std.specs.Option.{option_map_or}
-use Rattle.std.specs.Ordering.{eq_by_cmp}
 use Rattle.std.specs.List.{list_any, range_with_len}
 use Rattle.std.specs.Cmp.Lexicographic.{pointwise}
 use Rattle.re_terms.specs.declared.entry.Put.{Put}
 use Rattle.re_terms.specs.declared.entry.Entry.{Entry}
 use Rattle.re_terms.specs.declared.entry.Entry.TheVariants as entry
 use Rattle.re_terms.specs.declared.entry.State.{State}
+use Rattle.re_terms.specs.declared.replicated.Pair.{Pair}
 use Rattle.re_terms.specs.declared.replicated.RCell.{RCell}
 use Rattle.re_terms.specs.declared.replicated.RCell.TheVariants as cell
 use Rattle.re_terms.specs.declared.replicated.RState.{RState}
@@ -17,16 +17,20 @@ use Rattle.re_terms.specs.declared.program.Decl.{Decl}
 use Rattle.re_terms.specs.declared.program.Program.{Program}
 use Rattle.re_terms.specs.Programs.{is_replicated}
 use Rattle.re_terms.specs.SignalWords.{replicated_place}
-use Rattle.re_terms.specs.WordOrder.{same_word, pair_cmp}
+use Rattle.re_terms.specs.WordOrder.{same_word}
 
 -- the declaration with this id is a replicated cell
 abbrev pub is_replicated_at : List Decl → ℕ → Bool
 is_replicated_at decls id = option_map_or is_replicated (slice_get decls id) false
 
+-- two pairs are equal
+abbrev pub is_same_pair : Pair → Pair → Bool
+is_same_pair a b = same_word a.element b.element && (a.dot.device == b.dot.device) && (a.dot.number == b.dot.number)
+
 -- two replicated cells have the same content
 abbrev pub is_same_cell : RCell → RCell → Bool
 is_same_cell (cell.Counter a) (cell.Counter b) = pointwise nat_eq a.plus b.plus && pointwise nat_eq a.minus b.minus
-is_same_cell (cell.Set a) (cell.Set b) = pointwise (eq_by_cmp pair_cmp) a.items b.items
+is_same_cell (cell.Set a) (cell.Set b) = pointwise is_same_pair a.items b.items
 is_same_cell (cell.Register a) (cell.Register b) = (a.stamp == b.stamp) && (a.device == b.device) && same_word a.word b.word
 is_same_cell a b = false
 

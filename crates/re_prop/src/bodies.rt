@@ -2,7 +2,7 @@
 ghost use Rattle.std.specs.Prelude.{◌≡◌, ◌≤◌, length, count_by};
 ghost use Rattle.re_terms.specs.Programs.{is_replicated_body, is_replicated as is_replicated_decl};
 ghost use Rattle.re_terms.specs.Propagation.{is_signal_body};
-ghost use Rattle.re_terms.specs.Signal.{is_cell_body, is_cell as is_cell_decl, cell_place as place_of_cell};
+ghost use Rattle.re_terms.specs.Cells.{is_cell_body, is_cell as is_cell_decl, cell_place as place_of_cell};
 ghost use Rattle.re_terms.specs.SignalWords.{replicated_place as place_of_replicated};
 ghost use Rattle.re_prop.specs.Reading.{is_valued_body};
 

@@ -3,7 +3,7 @@ ghost use Rattle.std.specs.Prelude.{◌≡◌, ◌<◌, length, count_by, slice_
 ghost use Rattle.std.specs.List.{All};
 ghost use Rattle.re_terms.specs.Programs.{IsProgram};
 ghost use Rattle.re_terms.specs.Shapes.{FitsShape, shape_of};
-ghost use Rattle.re_terms.specs.Signal.{is_cell};
+ghost use Rattle.re_terms.specs.Cells.{is_cell};
 ghost use Rattle.re_terms.specs.SignalWords.{no_word};
 ghost use Rattle.re_terms.specs.Views.{view_of};
 ghost use Rattle.re_prop.specs.Caching.{put_all, signal_words};

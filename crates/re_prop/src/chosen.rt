@@ -3,7 +3,7 @@ ghost use Rattle.std.specs.Prelude.{◌≡◌, ◌≤◌, ◌&&◌, ℕ, map, no
 ghost use Rattle.std.specs.List.{range_with_len};
 ghost use Rattle.re_terms.specs.Listed.{plain};
 ghost use Rattle.re_terms.specs.Propagation.{is_cell_at, is_signal_at, is_signal_body};
-ghost use Rattle.re_terms.specs.Signal.{is_cell_body};
+ghost use Rattle.re_terms.specs.Cells.{is_cell_body};
 ghost use Rattle.re_terms.specs.SignalWords.{no_word};
 ghost use Rattle.re_terms.specs.WordOrder.{same_word};
 ghost use Rattle.re_prop.specs.Chosen.{chosen_words};

@@ -6,37 +6,6 @@ use crate::view::{NO_WORD, word_in};
 use re_terms::Word;
 use std::alloc::{AllocError, Global};
 
-/// What a declaration has behind an entry: its word, and its value where it is an event that occurs.
-#[derive(Clone, Copy)]
-pub struct Effect {
-    pub word: Word,
-    pub occurrence: Option<Word>,
-}
-
-impl Effect {
-    /// A declaration with this word.
-    pub fn of_word(word: Word) -> Effect
-        ensures word { result.word ≡ word }
-        ensures occurrence { result.occurrence ≡ None }
-    {
-        Effect {
-            word,
-            occurrence: None,
-        }
-    }
-
-    /// An event that occurs with this value, if any.
-    pub fn of_event(occurrence: Option<Word>) -> Effect
-        ensures word { result.word ≡ no_word }
-        ensures occurrence { result.occurrence ≡ occurrence }
-    {
-        Effect {
-            word: NO_WORD,
-            occurrence,
-        }
-    }
-}
-
 /// The words and the values of the declarations that were gone through, in order.
 #[derive(Drop)]
 pub struct Effects {
@@ -74,12 +43,12 @@ impl Effects {
     }
 
     /// One declaration more. The one refusal is want of memory, and leaves neither list of use.
-    pub fn push(&mut self, effect: Effect) -> Result<(), AllocError>
-        ensures words { OnOk result (self.new.words.items ≡ self.old.words.items ++ effect.word ∷ []) }
-        ensures values { OnOk result (self.new.values.items ≡ self.old.values.items ++ effect.occurrence ∷ []) }
+    pub fn push(&mut self, word: Word, value: Option<Word>) -> Result<(), AllocError>
+        ensures words { OnOk result (self.new.words.items ≡ self.old.words.items ++ word ∷ []) }
+        ensures values { OnOk result (self.new.values.items ≡ self.old.values.items ++ value ∷ []) }
     {
-        self.words.push(effect.word)?;
-        self.values.push(effect.occurrence)?;
+        self.words.push(word)?;
+        self.values.push(value)?;
         Ok(())
     }
 }

@@ -8,9 +8,12 @@ mod effects;
 mod names;
 mod prepared;
 mod propagation;
+mod reading;
 pub mod sizes;
+mod touched;
 pub mod view;
 mod walk;
+mod walking;
 mod words;
 
 pub use cache::Cache;

@@ -6,16 +6,22 @@ ghost use Rattle.re_terms.specs.Listed.{plain};
 ghost use Rattle.re_terms.specs.Programs.{IsProgram};
 ghost use Rattle.re_terms.specs.Propagation.{step_in, changes as changes_of, signal_changes};
 ghost use Rattle.re_terms.specs.Shapes.{FitsShape, shape_of};
-ghost use Rattle.re_terms.specs.Signal.{is_cell};
+ghost use Rattle.re_terms.specs.Cells.{is_cell};
 ghost use Rattle.re_terms.specs.Views.{view_of};
 ghost use Rattle.re_prop.specs.Caching.{signal_words};
 ghost use Rattle.re_prop.specs.Reading.{words_read};
 
 use crate::cache::Cache;
+use crate::chosen::{changed_cells, changed_signals, chosen};
 use crate::prepared::Prepared;
+use crate::reading::read;
+use crate::sizes::sizes;
+use crate::walk::Walk;
+use crate::walking::walk_all;
+use crate::words::from_cache;
 use re_eval::Steps;
 use re_graph::Graph;
-use re_terms::{Entry, Program, RState, State};
+use re_terms::{Entry, Program, RState, State, TryCopy};
 use std::alloc::{AllocError, Global};
 use std::sync::ledger::Ledger;
 
@@ -45,5 +51,26 @@ pub fn propagate<L: Ledger>(
     ensures read { IfOk result (λ prepared. prepared.read ≡ plain (words_read p.now s.now entry.now after.now)) }
     ensures evaluated { IfOk result (λ prepared. steps.new ≡ steps.old + prepared.evaluated) }
 {
-    Err(AllocError)
+    let decls = p.decls.as_slice();
+    let before = from_cache(alloc, p, c, s)?;
+    let sizes = sizes(alloc, after.cells.as_slice())?;
+    let walk = Walk {
+        program: p,
+        state: s,
+        entry,
+        after,
+        sizes: &sizes,
+        before: &before,
+    };
+    let mut evaluated = 0;
+    let effects = walk_all(alloc, &walk, steps, &mut evaluated)?;
+    let changed = changed_cells(alloc, decls, &before, &effects.words)?;
+    let signals = changed_signals(alloc, decls, &before, &effects.words)?;
+    Ok(Prepared {
+        entry: entry.copy(alloc)?,
+        changes: chosen(alloc, &changed, &effects.words)?,
+        signals: chosen(alloc, &signals, &effects.words)?,
+        read: read(alloc, p, g, s, entry, after, &before)?,
+        evaluated,
+    })
 }

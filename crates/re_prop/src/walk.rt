@@ -3,7 +3,7 @@ ghost use Rattle.std.specs.Prelude.{◌≡◌, ◌+◌, ◌≤◌, ◌<◌, true
 ghost use Rattle.std.specs.Option.{option_map_or};
 ghost use Rattle.re_terms.specs.Meaning.{meaning};
 ghost use Rattle.re_terms.specs.Propagation.{put_word as word_that_is_put, change_of, filtered as filtered_by, body_effect, sets_of, fires_of, step_in};
-ghost use Rattle.re_terms.specs.Signal.{is_cell_body, cell_place};
+ghost use Rattle.re_terms.specs.Cells.{is_cell_body, cell_place};
 ghost use Rattle.re_terms.specs.SignalWords.{names_environment, no_word, signal_word};
 ghost use Rattle.re_terms.specs.Views.{cell_size, view_of};
 ghost use Rattle.re_eval.specs.Given.{is_given};
@@ -11,7 +11,7 @@ ghost use Rattle.re_prop.specs.Effects.{effects_at, words_before};
 ghost use Rattle.re_prop.specs.Evaluated.{is_given_body};
 
 use crate::bodies::replicated_place;
-use crate::effects::{Effect, Effects};
+use crate::effects::Effects;
 use crate::names::Names;
 use crate::view::{NO_WORD, is_same, word_at, word_in};
 use re_eval::{Steps, eval};
@@ -52,7 +52,7 @@ fn filtered(condition: Word, value: Word) -> Option<Word>
 }
 
 /// The vars that an entry sets: none where it is a merge.
-fn sets(entry: &Entry) -> &[Put]
+pub fn sets(entry: &Entry) -> &[Put]
     ensures { result.now ≡ sets_of entry.now }
 {
     match entry {
@@ -62,7 +62,7 @@ fn sets(entry: &Entry) -> &[Put]
 }
 
 /// The source events that it fires.
-fn fires(entry: &Entry) -> &[Put]
+pub fn fires(entry: &Entry) -> &[Put]
     ensures { result.now ≡ fires_of entry.now }
 {
     match entry {
@@ -72,6 +72,7 @@ fn fires(entry: &Entry) -> &[Put]
 }
 
 /// What stands before an entry, and what it brings.
+#[derive(Clone, Copy)]
 pub struct Walk<'a> {
     pub program: &'a Program,
     pub state: &'a State,
@@ -114,7 +115,7 @@ impl<'a> Walk<'a> {
         evaluated: &mut u32,
     ) -> Word
         requires given { is_given (is_some arg) (is_some own) expr.now ≡ true }
-        requires few { evaluated.old ≤ 512 }
+        requires few { evaluated.old ≤ 1024 }
         ensures word { result ≡ meaning expr.now (names_environment self.now.program.now.decls.items (view_of self.now.after.now) (λ id. slice_index_or effects.now.words.items id no_word) arg own) }
         ensures steps { steps.new + evaluated.old ≡ steps.old + evaluated.new }
         ensures most { evaluated.new ≤ evaluated.old + 1 }
@@ -140,7 +141,7 @@ impl<'a> Walk<'a> {
         evaluated: &mut u32,
     ) -> Word
         requires given { is_given true true expr.now ≡ true }
-        requires few { evaluated.old ≤ 512 }
+        requires few { evaluated.old ≤ 1024 }
         ensures word { result ≡ option_map_or (λ value. meaning expr.now (names_environment self.now.program.now.decls.items (view_of self.now.after.now) (λ id. slice_index_or effects.now.words.items id no_word) (Some value) (Some kept))) value kept }
         ensures steps { steps.new + evaluated.old ≡ steps.old + evaluated.new }
         ensures most { evaluated.new ≤ evaluated.old + 1 }
@@ -161,7 +162,7 @@ impl<'a> Walk<'a> {
         evaluated: &mut u32,
     ) -> Option<Word>
         requires given { is_given true false expr.now ≡ true }
-        requires few { evaluated.old ≤ 512 }
+        requires few { evaluated.old ≤ 1024 }
         ensures word { result ≡ option_map (λ value. meaning expr.now (names_environment self.now.program.now.decls.items (view_of self.now.after.now) (λ id. slice_index_or effects.now.words.items id no_word) (Some value) None)) value }
         ensures steps { steps.new + evaluated.old ≡ steps.old + evaluated.new }
         ensures most { evaluated.new ≤ evaluated.old + 1 }
@@ -173,7 +174,7 @@ impl<'a> Walk<'a> {
     }
 
     /// The value of a declaration that is an event, where it occurs.
-    fn occurrence<L: Ledger>(
+    pub fn occurrence<L: Ledger>(
         &self,
         id: usize,
         body: &Body,
@@ -182,7 +183,7 @@ impl<'a> Walk<'a> {
         evaluated: &mut u32,
     ) -> Option<Word>
         requires given { is_given_body body.now ≡ true }
-        requires few { evaluated.old ≤ 512 }
+        requires few { evaluated.old ≤ 1024 }
         ensures word { result ≡ (body_effect self.now.program.now (step_in self.now.state.now self.now.entry.now self.now.after.now) id body.now (effects_at effects.now.words.items effects.now.values.items)).occurrence }
         ensures steps { steps.new + evaluated.old ≡ steps.old + evaluated.new }
         ensures most { evaluated.new ≤ evaluated.old + 1 }
@@ -205,7 +206,7 @@ impl<'a> Walk<'a> {
     }
 
     /// The word of a declaration; 0 where it has none.
-    fn word<L: Ledger>(
+    pub fn word<L: Ledger>(
         &self,
         id: usize,
         decl: &Decl,
@@ -215,7 +216,7 @@ impl<'a> Walk<'a> {
     ) -> Word
         requires at { slice_get self.now.program.now.decls.items id ≡ Some decl.now }
         requires given { is_given_body decl.now.body ≡ true }
-        requires few { evaluated.old ≤ 512 }
+        requires few { evaluated.old ≤ 1024 }
         ensures word { result ≡ (body_effect self.now.program.now (step_in self.now.state.now self.now.entry.now self.now.after.now) id decl.now.body (effects_at effects.now.words.items effects.now.values.items)).word }
         ensures steps { steps.new + evaluated.old ≡ steps.old + evaluated.new }
         ensures most { evaluated.new ≤ evaluated.old + 1 }

@@ -1,5 +1,5 @@
 use Rattle.std.proofs.Common.{◌≡◌, ◌≤◌, take, count_by}
-use Rattle.re_terms.specs.Signal.{is_cell}
+use Rattle.re_terms.specs.Cells.{is_cell}
 use Rattle.re_prop.proofs.bodies.cell_count.Given as goal
 
 abbrev pub invariant-loop-decl : goal.invariant-loop-decl

@@ -1,5 +1,5 @@
 use Rattle.std.proofs.Common.{refl, ◌∙◌}
-use Rattle.re_terms.specs.Signal.{is_cell}
+use Rattle.re_terms.specs.Cells.{is_cell}
 use Rattle.re_terms.specs.Propagation.{is_cell_at}
 use Rattle.re_prop.proofs.Choosing.{differs_at, differs_is, item_at, range_push}
 use Rattle.re_prop.proofs.chosen.changed_cells.Goals as goal
