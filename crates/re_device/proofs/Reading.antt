@@ -30,18 +30,6 @@ use Rattle.re_device.proofs.Placed.{at_each-at, length-at_each}
 pub own_word : (p : Program) (cells : List Word) (view : View) (id : ℕ) (d : Decl) (w : Word) → slice_get p.decls.items id ≡ Some d → ((words : ℕ → Word) → body_word p.decls.items cells view id d.body words ≡ w) → w ≡ signal_word p cells view id
 own_word p cells view id d w at each = sym (signal_word-own p cells view id d at ∙ each (below no_word (place_word p.decls.items cells view) id))
 
-signal_at : (decls : List Decl) (id : ℕ) (d : Decl) → slice_get decls id ≡ Some d → is_signal_body d.body ≡ true → is_signal_at decls id ≡ true
-signal_at decls id d at signal = ap (λ o. option_map_or (λ x. is_signal_body x.body) o false) at ∙ signal
-
--- the word that is kept of a signal
-pub kept_signal : (p : Program) (cells : List Word) (view : View) (id : ℕ) (d : Decl) → slice_get p.decls.items id ≡ Some d → is_signal_body d.body ≡ true → slice_index_or (signal_words p cells view) id no_word ≡ signal_word p cells view id
-kept_signal p cells view id d at signal =
-    get_or-map-range_with_len (cached_word p cells view) 0 (length p.decls.items) id id no_word (slice_get_within p.decls.items id d at) (omega arith)
-    ∙ ap (λ b. cond b (signal_word p cells view id) no_word) (signal_at p.decls.items id d at signal)
-
-pub length-signal_words : (p : Program) (cells : List Word) (view : View) → length (signal_words p cells view) ≡ length p.decls.items
-length-signal_words p cells view = length-map-range_with_len (cached_word p cells view) 0 (length p.decls.items)
-
 -- neither a var, fold, counter, register nor signal
 pub record IsOther (b : Body) : Type 0 where
   pub var : (kind : Kind) (start : Word) (region : ℕ) → b ≡ body.Var kind start region → ⊥

@@ -16,6 +16,7 @@ use crate::fault::{DeviceFault, Done};
 use crate::places::Places;
 use re_eval::Steps;
 use re_graph::Graph;
+use re_prop::sizes::size_at;
 use re_prop::view::{NO_WORD, has_at, word_at, word_in};
 use re_prop::{Cache, Prepared, propagate};
 use re_terms::{Admitted, Body, Entry, Logged, Program, Put, Seq, State, Word};
@@ -154,8 +155,15 @@ impl Device {
         }
     }
 
+    /// How many elements a set has, and 0 for any other id. It takes no memory.
+    pub(crate) fn size_of(&self, id: u16) -> u32
+        ensures { result ≡ (told_of self.now).size id }
+    {
+        size_at(self.state.rep.cells.as_slice(), self.places.replicated(id))
+    }
+
     /// Whether a set has the element, and false for any other id. It takes no memory.
-    pub(crate) fn has(&self, id: u16, word: Word) -> bool
+    pub(crate) fn contains(&self, id: u16, word: Word) -> bool
         ensures { result ≡ (told_of self.now).has id word }
     {
         has_at(self.state.rep.cells.as_slice(), self.places.replicated(id), word)

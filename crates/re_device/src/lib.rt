@@ -2,10 +2,9 @@
 #![tactic(auto)]
 
 mod device;
+mod env;
 mod fault;
 mod places;
-#[cfg(test)]
-mod tests;
 
 pub use device::Device;
 pub use fault::{DeviceFault, Done};

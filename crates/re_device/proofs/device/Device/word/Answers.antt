@@ -10,10 +10,10 @@ use Rattle.re_terms.specs.Propagation.{is_signal_body}
 use Rattle.re_terms.specs.Cells.{is_cell_body, cell_place}
 use Rattle.re_terms.specs.SignalWords.{body_word, no_word, replicated_place, signal_word}
 use Rattle.re_terms.specs.Views.{View, cell_word, view_of}
-use Rattle.re_prop.proofs.Before.{signal_word-none}
+use Rattle.re_prop.proofs.Before.{signal_word-none, cached_at, length-signal_words}
 use Rattle.re_device.specs.Device.{DeviceState}
 use Rattle.re_device.proofs.Placed.{length-at_each}
-use Rattle.re_device.proofs.Reading.{IsOther, other_word, own_word, kept_at, replicated_at, kept_signal, length-signal_words}
+use Rattle.re_device.proofs.Reading.{IsOther, other_word, own_word, kept_at, replicated_at}
 use Rattle.re_device.proofs.device.Device.word.Goals as goal
 
 none_past : (decls : List Decl) (id : ℕ) → None ≡ slice_get decls id → length decls ≤ id
@@ -67,8 +67,7 @@ returns-in-Signal c =
     let d = c.self.inside in
     let signal : is_signal_body c.in-Some.decl.now.body ≡ true = ap is_signal_body c.in-Signal.is in
     c.word-in-Signal.ensures
-    ∙ ap (λ l. slice_index_or l c.args.id no_word) c.self.invariant.cache
-    ∙ kept_signal d.program d.state.words.items (view_of d.state.rep) c.args.id c.in-Some.decl.now (sym c.in-Some.ensures) signal
+    ∙ cached_at d.program d.state.words.items (view_of d.state.rep) c.args.id c.in-Some.decl.now d.cache c.self.invariant.cache (sym c.in-Some.ensures) signal
     ∙ ap (λ (v : DeviceState). signal_word v.program v.state.words.items (view_of v.state.rep) c.args.id) c.self.view_is
 
 pub returns-in_default-body : goal.returns-in_default-body

@@ -4,7 +4,7 @@ use Rattle.std.specs.Prelude.{slice_get}
 use Rattle.re_terms.specs.Views.{View, cell_has, view_of}
 use Rattle.re_device.specs.Device.{DeviceState, told_of}
 use Rattle.re_device.proofs.Reading.{replicated_at}
-use Rattle.re_device.proofs.device.Device.has.Goals as goal
+use Rattle.re_device.proofs.device.Device.contains.Goals as goal
 
 pub returns : goal.returns
 returns c =
