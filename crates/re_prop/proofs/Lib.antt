@@ -5,6 +5,7 @@ pub mod Choosing
 pub mod Distinct
 pub mod Fits
 pub mod Givens
+pub mod Consequences
 pub mod Outcomes
 pub mod Putting
 pub mod Uses

@@ -1,17 +1,16 @@
 -- The words behind an entry are those of the state behind it.
-use Rattle.std.proofs.Common.{◌≡◌, ◌<◌, ◌==◌, ℕ, zero, suc, Bool, true, false, cond, List, length, refl, sym, ap, ◌∙◌, arith}
+use Rattle.std.proofs.Common.{◌≡◌, ◌<◌, ◌==◌, ℕ, zero, suc, Bool, true, false, cond, length, refl, sym, ap, ◌∙◌}
 use Rattle.std.specs.Prelude.{Option, None, Some, slice_get, slice_index_or}
 use Rattle.std.specs.Option.{option_map_or}
 use Rattle.std.proofs.Math.Path.{fun_ext}
 use Rattle.std.proofs.lemmas.Option.{slice_get_within}
-use Rattle.re_terms.specs.declared.word.Word.{Word}
 use Rattle.re_terms.specs.declared.program.Body.{Body}
 use Rattle.re_terms.specs.declared.program.Body.TheVariants as body
 use Rattle.re_terms.specs.declared.program.Decl.{Decl}
 use Rattle.re_terms.specs.declared.program.Program.{Program}
 use Rattle.re_terms.specs.Cells.{is_cell, is_cell_body, cell_place}
 use Rattle.re_terms.specs.Dependencies.{below}
-use Rattle.re_terms.specs.Propagation.{Effect, Step, body_effect, effect, is_cell_at, no_effect, place_effect, words_after}
+use Rattle.re_terms.specs.Propagation.{Step, body_effect, effect, no_effect, place_effect, words_after}
 use Rattle.re_terms.specs.SignalWords.{body_word, no_word, place_word, signal_word}
 use Rattle.re_prop.proofs.Along.{effect-own}
 use Rattle.re_prop.proofs.Cells.{words_after-at}

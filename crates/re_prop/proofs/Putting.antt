@@ -1,8 +1,8 @@
 -- What is put gives the words behind an entry.
-use Rattle.std.proofs.Common.{◌≡◌, ◌<◌, ◌≤◌, ◌+◌, ℕ, zero, suc, Bool, true, false, ◌&&◌, List, [], ◌∷◌, ◌++◌, map, length, take, drop, get_or, refl, sym, ap, subst, ◌∙◌, arith}
+use Rattle.std.proofs.Common.{◌≡◌, ◌<◌, ◌≤◌, ◌+◌, ℕ, zero, suc, Bool, true, false, ◌&&◌, List, [], ◌∷◌, ◌++◌, map, length, drop, refl, sym, ap, ◌∙◌, arith}
 use Rattle.std.specs.Prelude.{if◌then◌else◌, Option, None, Some, not, filter, count_by, slice_get, slice_index_or, slice_set}
 use Rattle.std.specs.Option.{option_map_or}
-use Rattle.std.specs.List.{All, range_with_len}
+use Rattle.std.specs.List.{range_with_len}
 use Rattle.std.proofs.Math.Seq.{drop-cons, set-append_seam}
 use Rattle.std.proofs.lemmas.List.{append_assoc, append-nil, drop_all, length-map, length_push, map-append, take_all}
 use Rattle.std.proofs.lemmas.List.FromFn.{get_or-map-range_with_len, length-range_with_len, length-map-range_with_len}
@@ -10,7 +10,7 @@ use Rattle.re_terms.specs.declared.word.Word.{Word}
 use Rattle.re_terms.specs.declared.entry.Put.{Put}
 use Rattle.re_terms.specs.declared.program.Decl.{Decl}
 use Rattle.re_terms.specs.declared.program.Program.{Program}
-use Rattle.re_terms.specs.Cells.{is_cell, is_cell_body, cell_place}
+use Rattle.re_terms.specs.Cells.{is_cell, cell_place}
 use Rattle.re_terms.specs.Propagation.{Step, changes, effect, is_cell_at, is_signal_at, signal_changes, words_after}
 use Rattle.re_terms.specs.SignalWords.{no_word, signal_word}
 use Rattle.re_terms.specs.WordOrder.{same_word}
@@ -18,14 +18,8 @@ use Rattle.re_terms.proofs.WordOrders.{same_word-is}
 use Rattle.re_graph.proofs.Ranges.{filter_range-takes, filter_range-skips}
 use Rattle.re_prop.specs.Caching.{cached_word, put_all, put_at, put_cells, signal_words}
 use Rattle.re_prop.proofs.Before.{kept_word}
-use Rattle.re_prop.proofs.Cells.{cell_ids-count}
+use Rattle.re_prop.proofs.Cells.{cell_ids-count, never}
 use Rattle.re_prop.proofs.Outcomes.{effect_word}
-
-never : {A : Type 0} → false ≡ true → A
-never h = absurd (no h)
-  where
-    no : false ≡ true → ⊥
-    no e = cc
 
 put_at-append : (place : ℕ → ℕ) (words : List Word) (xs ys : List Put) → put_at place words (xs ++ ys) ≡ put_at place (put_at place words xs) ys
 put_at-append place words [] ys = refl
@@ -105,7 +99,7 @@ module _ (place : ℕ → ℕ) (words : List Word) (keep changed : ℕ → Bool)
       ∙ ap (λ xs. map new (kept_below n_all) ++ xs) (drop_all (length (kept_below n_all)) words (omega (arith, count)))
       ∙ append-nil (map new (kept_below n_all))
 
-and_left : (a b : Bool) → (a && b) ≡ true → a ≡ true
+pub and_left : (a b : Bool) → (a && b) ≡ true → a ≡ true
 and_left true b h = refl
 and_left false b h = h
 
@@ -114,7 +108,7 @@ not_false true true wanted h = refl
 not_false true false wanted h = sym h
 not_false false b wanted h = never wanted
 
-at_some : (decls : List Decl) (id : ℕ) (test : Decl → Bool) (found : Option Decl) → slice_get decls id ≡ found → option_map_or test found false ≡ true → (d : Decl) × ((slice_get decls id ≡ Some d) × (test d ≡ true))
+pub at_some : (decls : List Decl) (id : ℕ) (test : Decl → Bool) (found : Option Decl) → slice_get decls id ≡ found → option_map_or test found false ≡ true → (d : Decl) × ((slice_get decls id ≡ Some d) × (test d ≡ true))
 at_some decls id test None is h = never h
 at_some decls id test (Some d) is h = (d, (is, h))
 
