@@ -1,12 +1,11 @@
 -- The elements of a set's pairs, counted along the pairs.
-use Rattle.std.proofs.Common.{◌≡◌, ◌<◌, ◌≤◌, ◌+◌, ◌-◌, ◌⊎◌, inl, inr, ℕ, zero, suc, Bool, true, false, ◌||◌, cond, List, [], ◌∷◌, ◌++◌, map, length, take, get_or, refl, sym, ap, subst, ◌∙◌, arith}
+use Rattle.std.proofs.Common.{◌≡◌, ◌<◌, ◌+◌, ◌-◌, ◌⊎◌, inl, inr, ℕ, Bool, true, false, ◌||◌, cond, List, [], ◌∷◌, ◌++◌, map, length, take, get_or, refl, sym, ap, ◌∙◌, arith}
 use Rattle.std.specs.Prelude.{Some, not, pos, slice_get, slice_index_or}
 use Rattle.std.specs.List.{All, list_any}
 use Rattle.std.specs.declared.cmp.Ordering.{Ordering}
 use Rattle.std.specs.declared.cmp.Ordering.TheVariants.{Less, Equal, Greater}
-use Rattle.std.specs.Ordering.{nat_cmp, then_cmp, on, ordering_then, ordering_reverse, eq_by_cmp, is_eq}
-use Rattle.std.specs.Cmp.{Equal-is}
-use Rattle.std.specs.FinMap.{from_entries, insert, entries, keys, len, len-entries, len-insert, len-empty, contains_key, contains_key-keys}
+use Rattle.std.specs.Ordering.{nat_cmp, ordering_then, ordering_reverse, eq_by_cmp, is_eq}
+use Rattle.std.specs.FinMap.{from_entries, entries, len, len-entries, len-insert, len-empty, contains_key, contains_key-keys}
 use Rattle.std.specs.List.Sorted.{IsStrictlySortedBy}
 use Rattle.std.proofs.lemmas.Bool.{cases_eq}
 use Rattle.std.proofs.lemmas.List.{length-map, length-take, map_more, get_or-map, get_or-take, get_or_default}

@@ -8,7 +8,7 @@ use Rattle.re_terms.specs.declared.program.Body.{Body}
 use Rattle.re_terms.specs.declared.program.Body.TheVariants as body
 use Rattle.re_terms.specs.declared.program.Decl.{Decl}
 use Rattle.re_terms.specs.declared.program.Program.{Program}
-use Rattle.re_terms.specs.Kinds.{Sort, SomeKind, Place, in_signal, at_event, kind_step, expr_kind, is_of_kind, agrees_with, only_if, event_kind, set_kind, taking, sort_of, sorts_of, keeps_kinds}
+use Rattle.re_terms.specs.Kinds.{Sort, SomeKind, Place, in_signal, at_event, kind_step, expr_kind, is_of_kind, agrees_with, only_if, event_kind, set_kind, taking, sort_of, sorts_of}
 use Rattle.re_terms.specs.declared.word.Kind.{Kind}
 use Rattle.re_terms.specs.declared.word.Kind.TheVariants as kind
 use Rattle.re_terms.specs.Programs.{IsProgram}

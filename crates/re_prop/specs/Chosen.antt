@@ -1,6 +1,6 @@
 -- Words of chosen declarations.
 -- Read against: of the marks false, true, true and the words 4, 5, 6 there are put 5 for 1 and 6 for 2.
-use Rattle.std.specs.Prelude.{ℕ, Bool, false, List, map, filter, length, slice_index_or}
+use Rattle.std.specs.Prelude.{Bool, false, List, map, filter, length, slice_index_or}
 use Rattle.std.specs.List.{range_with_len}
 use Rattle.re_terms.specs.declared.word.Word.{Word}
 use Rattle.re_terms.specs.declared.entry.Put.{Put}

@@ -5,6 +5,7 @@ mod bodies;
 mod cache;
 mod chosen;
 mod effects;
+pub mod laws;
 mod names;
 mod prepared;
 mod propagation;

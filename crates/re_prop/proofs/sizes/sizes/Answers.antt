@@ -1,5 +1,4 @@
-use Rattle.std.proofs.Common.{ap, ◌∙◌}
-use Rattle.std.specs.Prelude.{Some}
+use Rattle.std.proofs.Common.{◌∙◌}
 use Rattle.re_prop.proofs.Distinct.{sizes_step}
 use Rattle.re_prop.proofs.sizes.sizes.Goals as goal
 

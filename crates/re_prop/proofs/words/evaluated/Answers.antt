@@ -1,7 +1,6 @@
-use Rattle.std.proofs.Common.{◌≡◌, sym, ap, subst, ◌∙◌}
+use Rattle.std.proofs.Common.{◌≡◌, subst, ◌∙◌}
 use Rattle.std.specs.Prelude.{IfOk}
 use Rattle.re_terms.specs.Shapes.{shape_of}
-use Rattle.re_terms.specs.Views.{view_of}
 use Rattle.re_prop.proofs.Before.{signals_are}
 use Rattle.re_prop.proofs.Fits.{sets_of_fit}
 use Rattle.re_prop.proofs.words.evaluated.Goals as goal

@@ -1,7 +1,7 @@
 use Rattle.std.proofs.Common.{ap, sym, ◌∙◌, arith, length}
 use Rattle.re_terms.specs.Dependencies.{below}
 use Rattle.re_terms.specs.Propagation.{is_signal_body}
-use Rattle.re_terms.specs.SignalWords.{body_word, no_word, place_word}
+use Rattle.re_terms.specs.SignalWords.{no_word, place_word}
 use Rattle.re_terms.specs.Views.{view_of}
 use Rattle.std.proofs.lemmas.Option.{slice_get_within}
 use Rattle.re_prop.proofs.Before.{cached_at, length-signal_words, not_signal, signal_word-own}
@@ -21,6 +21,4 @@ returns-in_default c =
     let cells = c.args.s.now.words.items in
     let view = view_of c.args.s.now.rep in
     let words = below no_word (place_word p.decls.items cells view) c.args.id in
-    c.stored.ensures (not_signal c.in_default.body (λ kind expr is. c.in_default.not-Signal kind expr (c.in_default.body-is ∙ is))) words
-    ∙ ap (λ b. body_word p.decls.items cells view c.args.id b words) (sym c.in_default.body-is)
-    ∙ sym (signal_word-own p cells view c.args.id c.args.decl.now c.requires.at)
+    c.stored.ensures (not_signal c.args.decl.now.body c.in_default.not-Signal) words ∙ sym (signal_word-own p cells view c.args.id c.args.decl.now c.requires.at)

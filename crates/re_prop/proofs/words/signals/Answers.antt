@@ -1,6 +1,4 @@
-use Rattle.std.proofs.Common.{refl, sym, ap, ◌∙◌}
-use Rattle.std.specs.Prelude.{if◌then◌else◌}
-use Rattle.re_terms.specs.SignalWords.{no_word}
+use Rattle.std.proofs.Common.{refl, ◌∙◌}
 use Rattle.re_prop.proofs.Before.{signal_only, signal_only_at}
 use Rattle.re_prop.proofs.Choosing.{item_at, range_push}
 use Rattle.re_prop.proofs.words.signals.Goals as goal
