@@ -1,7 +1,7 @@
 //! Graphs.
 ghost use Rattle.std.specs.Prelude.{◌≡◌, ◌<◌, ◌≤◌, length, IfOk};
 ghost use Rattle.std.specs.List.{All};
-ghost use Rattle.re_terms.specs.Dependencies.{graph_of, level as level_of, reach as reach_of, IsOrdered, HasRegions};
+ghost use Rattle.re_terms.specs.Dependencies.{graph_of, inputs_at, level as level_of, reach as reach_of, IsOrdered, HasRegions};
 ghost use Rattle.re_terms.specs.Listed.{plain};
 ghost use Rattle.re_graph.specs.Footprint.{footprint as footprint_of};
 ghost use Rattle.re_graph.specs.Kept.{IsOrderBy};
@@ -81,6 +81,14 @@ impl Graph {
         ensures { result ≡ level_of self.now id }
     {
         u32::from(self.levels.as_slice()[id as usize])
+    }
+
+    /// What a declaration names, in order of their places in its body.
+    pub fn inputs(&self, id: u16) -> &Seq<u16>
+        requires { id < length self.now }
+        ensures { result.now.items ≡ inputs_at self.now id }
+    {
+        &self.nodes.as_slice()[id as usize].inputs
     }
 
     /// Each id once, ascending by level and, at one level, by id. Inputs come before what names them.

@@ -1,0 +1,5 @@
+pub mod Entering
+pub mod Placed
+pub mod Reading
+pub mod Samples
+pub mod Starting

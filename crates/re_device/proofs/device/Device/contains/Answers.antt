@@ -1,0 +1,16 @@
+-- The set stands at the place that is kept.
+use Rattle.std.proofs.Common.{◌≡◌, refl, sym, ap, ◌∙◌}
+use Rattle.std.specs.Prelude.{slice_get}
+use Rattle.re_terms.specs.Views.{View, cell_has, view_of}
+use Rattle.re_device.specs.Device.{DeviceState, told_of}
+use Rattle.re_device.proofs.Reading.{replicated_at}
+use Rattle.re_device.proofs.device.Device.contains.Goals as goal
+
+pub returns : goal.returns
+returns c =
+    let d = c.self.inside in
+    let view : View = view_of d.state.rep in
+    c.has_at.ensures
+    ∙ ap (λ l. cell_has (slice_get l c.replicated.result) c.args.word) c.as_slice.ensures
+    ∙ ap (λ place. view.has place c.args.word) (replicated_at d.program.decls.items d.places c.args.id c.replicated.result c.self.invariant.places c.replicated.ensures)
+    ∙ ap (λ (v : DeviceState). (told_of v).has c.args.id c.args.word) c.self.view_is

@@ -1,0 +1,10 @@
+//! One device of a program.
+#![tactic(auto)]
+
+mod device;
+mod env;
+mod fault;
+mod places;
+
+pub use device::Device;
+pub use fault::{DeviceFault, Done};

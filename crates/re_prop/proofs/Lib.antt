@@ -1,0 +1,11 @@
+pub mod Along
+pub mod Before
+pub mod Cells
+pub mod Choosing
+pub mod Distinct
+pub mod Fits
+pub mod Givens
+pub mod Consequences
+pub mod Outcomes
+pub mod Putting
+pub mod Uses
