@@ -1,2 +1,3 @@
+pub mod Commanded
 pub mod Devices
 pub mod Separated

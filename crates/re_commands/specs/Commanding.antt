@@ -80,15 +80,15 @@ meant p (Crash device) = made command.Crash (device_of p.decls.items device)
 meant p (Restart device) = made command.Restart (device_of p.decls.items device)
 
 -- a line that the grammar has, or the fault of syntax
-abbrev pub line_meant : Program → Option Line → Result (Option Command) CommandFault
+abbrev pub line_meant : Program → Option Line → Result Command CommandFault
 line_meant p None = Err fault.Syntax
-line_meant p (Some line) = made Some (meant p line)
+line_meant p (Some line) = meant p line
 
 -- a line without tokens is nothing, and one where at some place no token begins has the fault of syntax
 abbrev pub marks_meant : Program → Option (List Mark) → Result (Option Command) CommandFault
 marks_meant p None = Err fault.Syntax
 marks_meant p (Some []) = Ok None
-marks_meant p (Some (m ∷ marks)) = line_meant p (read_line (m ∷ marks))
+marks_meant p (Some (m ∷ marks)) = made Some (line_meant p (read_line (m ∷ marks)))
 
 -- what a line is, without its end; one of over 1,024 bytes has the fault of syntax, whatever is in it
 abbrev pub commanded : Program → List ℕ → Result (Option Command) CommandFault

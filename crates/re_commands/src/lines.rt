@@ -53,10 +53,14 @@ fn read_behind<'a>(
     ensures { IfOk result (λ line. option_map plain_line line ≡ line_behind word (marks_of tokens.now)) }
 {
     Ok(match word {
-        LineWord::Turn => read_device_turn(alloc, tokens)?
-            .map(|(device, turn)| RawLine::Turn { device, turn }),
-        LineWord::Lazy => read_device_turn(alloc, tokens)?
-            .map(|(device, turn)| RawLine::Lazy { device, turn }),
+        LineWord::Turn => read_device_turn(alloc, tokens)?.map(|(device, turn)| RawLine::Turn {
+            device,
+            turn,
+        }),
+        LineWord::Lazy => read_device_turn(alloc, tokens)?.map(|(device, turn)| RawLine::Lazy {
+            device,
+            turn,
+        }),
         LineWord::Settle => only_name(tokens).map(|device| RawLine::Settle { device }),
         LineWord::Get => read_get(tokens),
         LineWord::Send => only_name(tokens).map(|device| RawLine::Send { device }),
@@ -68,10 +72,7 @@ fn read_behind<'a>(
 }
 
 /// Reads a line. The one error is want of memory.
-pub fn read_line<'a>(
-    alloc: Global,
-    tokens: &'a [Token],
-) -> Result<Option<RawLine<'a>>, AllocError>
+pub fn read_line<'a>(alloc: Global, tokens: &'a [Token]) -> Result<Option<RawLine<'a>>, AllocError>
     ensures { IfOk result (λ line. option_map plain_line line ≡ read_line (marks_of tokens.now)) }
 {
     let Some((word, rest)) = name_first(tokens) else {

@@ -52,11 +52,7 @@ fn device_shown(p: &Program, device: &Text, name: &Text) -> Result<(u8, u16), Co
 }
 
 /// The command that a line is.
-pub fn meaning(
-    alloc: Global,
-    p: &Program,
-    line: RawLine<'_>,
-) -> Result<Command, CommandFault>
+pub fn meaning(alloc: Global, p: &Program, line: RawLine<'_>) -> Result<Command, CommandFault>
     requires { IsProgram p.now }
     ensures answer { result ≢ Err CommandFault.Memory → result ≡ meant p.now (plain_line line.entry) }
     ensures command { IfOk result (IsCommandOf p.now) }

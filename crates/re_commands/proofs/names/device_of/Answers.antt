@@ -1,6 +1,5 @@
-use Rattle.std.proofs.Common.{ℕ, ◌≡◌, ◌<◌, List, subst, sym, ap, ◌∙◌, arith}
+use Rattle.std.proofs.Common.{sym, ap, ◌∙◌, arith}
 use Rattle.re_terms.specs.Admission.{device_count}
-use Rattle.re_terms.specs.declared.program.Decl.{Decl}
 use Rattle.re_commands.proofs.Devices.{number_below}
 use Rattle.re_commands.proofs.names.device_of.Goals as goal
 

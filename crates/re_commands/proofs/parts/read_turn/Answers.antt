@@ -1,7 +1,7 @@
-use Rattle.std.proofs.Common.{◌≡◌, Some, None, sym, ◌∙◌, ◌<◌, length, rules, tests, arith}
+use Rattle.std.proofs.Common.{◌≡◌, Some, sym, ◌∙◌, ◌<◌, length, rules, tests, arith}
 use Rattle.std.proofs.lemmas.Iterator.Splits.{YieldsList-from_slice_split}
 use Rattle.std.proofs.lemmas.Iterator.Consumers.{YieldsList-turn, YieldsList-end}
-use Rattle.re_commands.specs.LineGrammar.{is_comma, part_of, turn_of}
+use Rattle.re_commands.specs.LineGrammar.{is_comma, part_of}
 use Rattle.re_commands.specs.RawLines.{marks_of}
 use Rattle.re_commands.proofs.Separated.{reads_more, reads_all, reads_none}
 use Rattle.re_commands.proofs.parts.read_turn.Goals as goal
