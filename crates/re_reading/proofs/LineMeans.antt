@@ -9,7 +9,7 @@ use Rattle.std.proofs.lemmas.List.Sums.{sum_by-append}
 use Rattle.std.proofs.lemmas.Option.{option_and_then_some}
 use Rattle.re_terms.specs.Listed.{plain}
 use Rattle.re_terms.specs.Trees.{is_region, is_name_text}
-use Rattle.re_terms.specs.Signal.{is_cell, is_cell_body}
+use Rattle.re_terms.specs.Cells.{is_cell, is_cell_body}
 use Rattle.re_terms.specs.Kinds.{Sort, Value, Event, SomeKind, ◌>>=◌, only_if, kind_eq, is_of_kind, agrees_with, is_start, in_signal, at_event, in_fold, value_kind, event_kind, expr_kind, sort_of, sorts_of, keeps_kinds}
 use Rattle.re_terms.specs.Programs.{IsProgram, is_device_body, is_device, is_symbol, is_replicated_body, is_replicated, names_of, is_literal_word, has_literals, expr_depth, is_ranged_expr, is_ranged}
 use Rattle.re_terms.specs.declared.word.Word.{Word}

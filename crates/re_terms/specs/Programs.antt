@@ -4,7 +4,7 @@ use Rattle.std.specs.Prelude.{ℕ, suc, ◌≡◌, ◌≤◌, ◌≢◌, ◌&&�
 use Rattle.std.specs.List.{list_all}
 use Rattle.re_terms.specs.Arithmetic.{is_word_number}
 use Rattle.re_terms.specs.Trees.{is_name_text, is_fault_code, is_region}
-use Rattle.re_terms.specs.Signal.{is_cell}
+use Rattle.re_terms.specs.Cells.{is_cell}
 use Rattle.re_terms.specs.Kinds.{keeps_kinds}
 use Rattle.re_terms.specs.declared.word.Word.{Word}
 use Rattle.re_terms.specs.declared.word.Word.TheVariants as word

@@ -17,7 +17,7 @@ use Rattle.re_terms.specs.declared.program.Decl.{Decl}
 use Rattle.re_terms.specs.declared.program.Program.{Program}
 use Rattle.re_terms.specs.Dependencies.{below}
 use Rattle.re_terms.specs.Meaning.{meaning}
-use Rattle.re_terms.specs.Signal.{is_cell, cell_place}
+use Rattle.re_terms.specs.Cells.{is_cell, cell_place}
 use Rattle.re_terms.specs.SignalWords.{no_word, names_environment, replicated_place, signal_word}
 use Rattle.re_terms.specs.Views.{View, view_of}
 use Rattle.re_terms.specs.WordOrder.{same_word}

@@ -11,7 +11,7 @@ use Rattle.re_terms.specs.declared.program.Program.{Program}
 use Rattle.re_terms.specs.Dependencies.{below}
 use Rattle.re_terms.specs.Meaning.{Environment, meaning}
 use Rattle.re_terms.specs.Programs.{is_replicated}
-use Rattle.re_terms.specs.Signal.{cell_place}
+use Rattle.re_terms.specs.Cells.{cell_place}
 use Rattle.re_terms.specs.Views.{View}
 
 -- what stands in place of a word where a declaration has none

@@ -6,6 +6,7 @@ pub mod copying;
 pub mod entry;
 pub mod expr;
 pub mod kinds;
+pub mod laws;
 pub mod program;
 pub mod raw;
 pub mod raw_expr;
@@ -18,6 +19,7 @@ pub mod signs;
 mod tests;
 pub mod text;
 pub mod token;
+pub mod vectors;
 pub mod word;
 
 pub use command::{Answer, Command};
@@ -25,6 +27,7 @@ pub use copying::TryCopy;
 pub use entry::{Admitted, Entry, Logged, Put, State, Turn};
 pub use expr::{Expr, Op};
 pub use kinds::{allows, layout};
+pub use laws::Replicated;
 pub use program::{Body, Decl, Program};
 pub use raw::{RawBody, RawDecl, RawPart, RawTurn, Tree};
 pub use raw_expr::{RawExpr, RawLit};
@@ -32,6 +35,8 @@ pub use replicated::{
     Act, Dot, Layout, Pair, RCell, RKind, RState, RepOp, Rows, SetFault, Shape, Vector, Written,
 };
 pub use seq::Seq;
+pub use shape::replicated_kind;
 pub use text::Text;
 pub use token::{Mark, Token};
+pub use vectors::{covers, join_vectors};
 pub use word::{Kind, Word};

@@ -9,8 +9,8 @@ use crate::{
 };
 use std::alloc::{AllocError, Global};
 
-/// What a declaration is as a replicated cell, where it is one.
-fn replicated_kind(body: &Body) -> Option<RKind>
+/// What a declaration is as a replicated cell, where it is one. It takes no memory.
+pub fn replicated_kind(body: &Body) -> Option<RKind>
     ensures { result ≡ replicated_kind body.now }
 {
     match body {

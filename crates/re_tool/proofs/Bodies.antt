@@ -10,7 +10,7 @@ use Rattle.re_terms.specs.declared.program.Body.TheVariants as body
 use Rattle.re_terms.specs.declared.program.Decl.{Decl}
 use Rattle.re_terms.specs.declared.program.Program.{Program}
 use Rattle.re_terms.specs.Listed.{Listed}
-use Rattle.re_terms.specs.Signal.{body_word, cell_place}
+use Rattle.re_terms.specs.Cells.{body_word, cell_place}
 use Rattle.re_tool.specs.Built.{IsBuilt, is_sum_below}
 use Rattle.re_tool.specs.Names.{body_reads, is_sum_body}
 use Rattle.re_tool.specs.Device.{DeviceState, device_word, is_var, is_valued}

@@ -9,7 +9,7 @@ use Rattle.re_terms.specs.declared.word.Word.{Word}
 use Rattle.re_terms.specs.declared.program.Decl.{Decl}
 use Rattle.re_terms.specs.declared.program.Program.{Program}
 use Rattle.re_terms.specs.Plain.{start_then, start_words, PlainState, Turn, Setting}
-use Rattle.re_terms.specs.Signal.{is_cell, is_cell_body, cell_place}
+use Rattle.re_terms.specs.Cells.{is_cell, is_cell_body, cell_place}
 use Rattle.re_terms.specs.World.{World, TakeTurn, Fine, world_state, world_after}
 use Rattle.re_terms.proofs.States.{cell_place-within, words_after-set, run_entries-append}
 use Rattle.re_tool.specs.Device.{DeviceState, Fits, Represents}

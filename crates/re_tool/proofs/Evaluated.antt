@@ -10,7 +10,7 @@ use Rattle.re_terms.specs.declared.word.Word.TheVariants as word
 use Rattle.re_terms.specs.declared.program.Body.TheVariants as body
 use Rattle.re_terms.specs.declared.program.Decl.{Decl}
 use Rattle.re_terms.specs.declared.program.Program.{Program}
-use Rattle.re_terms.specs.Signal.{word_below, signal_word}
+use Rattle.re_terms.specs.Cells.{word_below, signal_word}
 use Rattle.re_terms.proofs.Signals.{signal_word-body, signal_word-below}
 use Rattle.re_tool.specs.Built.{IsBuilt}
 use Rattle.re_tool.specs.Names.{body_reads, reads, is_marked, Needs}

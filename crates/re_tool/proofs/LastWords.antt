@@ -8,7 +8,7 @@ use Rattle.re_terms.specs.declared.program.Body.TheVariants as body
 use Rattle.re_terms.specs.declared.program.Decl.{Decl}
 use Rattle.re_terms.specs.declared.program.Program.{Program}
 use Rattle.re_terms.specs.Plain.{Turn, Setting, start_then, start_words, set_or_kept, words_by, words_from, words_after}
-use Rattle.re_terms.specs.Signal.{signal_word}
+use Rattle.re_terms.specs.Cells.{signal_word}
 use Rattle.re_terms.specs.World.{World, Outcome, Fine, Memory, start_world, world_state}
 use Rattle.re_terms.proofs.States.{run_entries-append}
 use Rattle.re_tool.specs.declared.command.Line.{Line}

@@ -8,7 +8,7 @@ use Rattle.re_terms.specs.declared.expr.Expr.TheOpen.{Expr-F, Lit, Name, Arg, Ow
 use Rattle.re_terms.specs.declared.expr.Expr.TheFolds.{fold-roll-Expr, ind-Expr}
 use Rattle.re_terms.specs.Arithmetic.{operator_word}
 use Rattle.re_terms.specs.Meaning.{Environment, meaning, meaning_step}
-use Rattle.re_terms.specs.Signal.{words_environment}
+use Rattle.re_terms.specs.Cells.{words_environment}
 use Rattle.re_tool.specs.Built.{is_sum_below, sum_step, is_add}
 use Rattle.re_tool.specs.Names.{occurs, occurs_step}
 

@@ -10,7 +10,7 @@ use Rattle.re_terms.specs.declared.program.Body.TheVariants as body
 use Rattle.re_terms.specs.declared.program.Decl.{Decl}
 use Rattle.re_terms.specs.declared.program.Program.{Program}
 use Rattle.re_terms.specs.Plain.{Setting}
-use Rattle.re_terms.specs.Signal.{is_cell, is_cell_body, cell_place, body_word, word_below, signal_word}
+use Rattle.re_terms.specs.Cells.{is_cell, is_cell_body, cell_place, body_word, word_below, signal_word}
 use Rattle.re_terms.specs.World.{Outcome, Fine, start_world}
 use Rattle.re_terms.proofs.Signals.{signal_word-body}
 use Rattle.re_tool.specs.declared.command.Line.TheVariants as line

@@ -7,7 +7,7 @@ use Rattle.re_terms.specs.declared.program.Body.TheVariants as body
 use Rattle.re_terms.specs.declared.program.Decl.{Decl}
 use Rattle.re_terms.specs.declared.program.Program.{Program}
 use Rattle.re_terms.specs.Meaning.{meaning}
-use Rattle.re_terms.specs.Signal.{is_cell, cell_place, words_environment}
+use Rattle.re_terms.specs.Cells.{is_cell, cell_place, words_environment}
 use Rattle.re_terms.specs.World.{World, PlainCommand, TakeTurn, Get, PlainAnswer, Entered, Value, Refused, Outcome, world_state, last_number, reply, world_after}
 use Rattle.re_tool.specs.Patterns.{is_var_body, is_valued_body}
 use Rattle.re_tool.specs.declared.device.Command.{Command}

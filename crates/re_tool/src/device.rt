@@ -3,7 +3,7 @@ ghost use Rattle.std.specs.Prelude.{◌≡◌, ◌<◌, ◌≤◌, ◌+◌, ◌-
 ghost use Rattle.std.specs.Option.{is_some, option_to_list};
 ghost use Rattle.re_terms.specs.declared.word.Word.{Word};
 ghost use Rattle.re_terms.specs.Plain.{start_then};
-ghost use Rattle.re_terms.specs.Signal.{is_cell_body, signal_word};
+ghost use Rattle.re_terms.specs.Cells.{is_cell_body, signal_word};
 ghost use Rattle.re_terms.specs.World.{start_world};
 ghost use Rattle.re_tool.specs.Built.{IsBuilt};
 ghost use Rattle.re_tool.specs.Names.{is_sum_body};

@@ -2,7 +2,7 @@
 ghost use Rattle.std.specs.Prelude.{◌≡◌, ◌<◌, pos, length, slice_index_or, true};
 ghost use Rattle.re_terms.specs.Arithmetic.{operator_word};
 ghost use Rattle.re_terms.specs.Meaning.{meaning};
-ghost use Rattle.re_terms.specs.Signal.{words_environment};
+ghost use Rattle.re_terms.specs.Cells.{words_environment};
 ghost use Rattle.re_tool.specs.Built.{is_sum_below};
 
 use re_terms::{Expr, Op, Word};

@@ -4,7 +4,7 @@ ghost use Rattle.re_terms.specs.declared.program.Decl.{Decl};
 ghost use Rattle.re_terms.specs.declared.program.Program.{Program};
 ghost use Rattle.re_terms.specs.declared.word.Kind.{Kind};
 ghost use Rattle.re_terms.specs.declared.word.Word.{Word};
-ghost use Rattle.re_terms.specs.Signal.{signal_word};
+ghost use Rattle.re_terms.specs.Cells.{signal_word};
 ghost use Rattle.re_terms.specs.World.{World, Outcome, Fine, Memory, Refused, start_world};
 ghost use Rattle.re_tool.specs.Answers.{line_answer, line_text, lines_after};
 ghost use Rattle.re_tool.specs.Commands.{line_of};

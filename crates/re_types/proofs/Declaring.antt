@@ -11,7 +11,7 @@ use Rattle.std.proofs.lemmas.List.Quantifiers.{all_pairs_push}
 use Rattle.std.proofs.lemmas.Option.{slice_get_within}
 use Rattle.std.proofs.lemmas.Slice.Eq.{bytes_eq-Decides}
 use Rattle.re_terms.specs.Trees.{is_name_text}
-use Rattle.re_terms.specs.Signal.{is_cell}
+use Rattle.re_terms.specs.Cells.{is_cell}
 use Rattle.re_terms.specs.Kinds.{Sort, Device, Symbol, is_symbol_sort, sort_of, sorts_of, with_sort, keeps_kinds}
 use Rattle.re_terms.specs.Programs.{is_device, is_symbol, is_replicated, names_of, is_ranged}
 use Rattle.re_terms.specs.declared.program.Decl.{Decl}

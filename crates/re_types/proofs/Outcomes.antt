@@ -2,7 +2,7 @@
 use Rattle.std.proofs.Common.{ℕ, ◌≡◌, ◌<◌, ◌≤◌, ◌+◌, Bool, true, false, not, ◌||◌, if◌then◌else◌, length, Option, Some, None, Ok, Err, refl, ap, subst, ◌∙◌, arith}
 use Rattle.std.specs.Prelude.{option_and_then, option_map, nat_lt, is_some, count_by}
 use Rattle.std.proofs.lemmas.Bool.{ltb-true}
-use Rattle.re_terms.specs.Signal.{is_cell, is_cell_body}
+use Rattle.re_terms.specs.Cells.{is_cell, is_cell_body}
 use Rattle.re_terms.specs.Kinds.{Sort, Symbol, is_symbol_sort, event_kind, expr_kind, in_signal, at_event, sort_of}
 use Rattle.re_terms.specs.Programs.{is_device, is_device_body, is_replicated, is_replicated_body, is_symbol_body, names_of, is_ranged}
 use Rattle.re_terms.specs.Trees.{is_name_text, is_body, is_declaration}

@@ -3,7 +3,7 @@
 use Rattle.std.specs.Prelude.{ℕ, ◌&&◌, ◌||◌, not, Bool, true, false, if◌then◌else◌, List, [], ◌∷◌, ◌++◌, length, nat_lt, Option, None, Some, is_some, option_map, Result, Ok, Err, slice_get, count_by, position}
 use Rattle.std.specs.Str.{bytes_eq}
 use Rattle.re_terms.specs.Listed.{Listed, plain}
-use Rattle.re_terms.specs.Signal.{is_cell}
+use Rattle.re_terms.specs.Cells.{is_cell}
 use Rattle.re_terms.specs.Kinds.{Sort, Symbol, SomeKind, ◌>>=◌, event_kind, expr_kind, in_signal, at_event, sort_of, sorts_of}
 use Rattle.re_terms.specs.Programs.{is_device, is_replicated, names_of}
 use Rattle.re_terms.specs.declared.word.Word.{Word}

@@ -3,7 +3,7 @@
 use Rattle.std.specs.Prelude.{ℕ, ◌≡◌, ◌≢◌, ◌≤◌, true, List, length, take, AllPairs, Some, slice_get, count_by}
 use Rattle.std.specs.List.{list_all}
 use Rattle.re_terms.specs.Trees.{is_name_text}
-use Rattle.re_terms.specs.Signal.{is_cell}
+use Rattle.re_terms.specs.Cells.{is_cell}
 use Rattle.re_terms.specs.Kinds.{is_symbol_sort, sorts_of, keeps_kinds}
 use Rattle.re_terms.specs.Programs.{is_device, is_symbol, is_replicated, names_of, is_ranged}
 use Rattle.re_terms.specs.declared.program.Decl.{Decl}

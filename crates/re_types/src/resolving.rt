@@ -3,7 +3,7 @@ ghost use Rattle.std.specs.Prelude.{◌≡◌, ◌≢◌, ℕ, ◌<◌, ◌+◌,
 ghost use Rattle.std.specs.List.{list_all};
 ghost use Rattle.re_terms.specs.Trees.{IsTree, is_body, is_declaration};
 ghost use Rattle.re_terms.specs.Kinds.{sort_of};
-ghost use Rattle.re_terms.specs.Signal.{is_cell_body};
+ghost use Rattle.re_terms.specs.Cells.{is_cell_body};
 ghost use Rattle.re_terms.specs.Programs.{IsProgram, is_device_body, is_replicated_body};
 ghost use Rattle.re_types.specs.Resolving.{place_of, has_room, knows_body, kinded_body, declared, declarations, then_others, program_with, resolved};
 ghost use Rattle.re_types.specs.Scopes.{plain_sort};

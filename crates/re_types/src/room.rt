@@ -1,7 +1,7 @@
 //! The limits of programs.
 ghost use Rattle.std.specs.Prelude.{◌≡◌, ◌<◌, ◌^◌, ◌+◌, if◌then◌else◌};
 ghost use Rattle.re_terms.specs.Programs.{is_device_body, is_replicated_body};
-ghost use Rattle.re_terms.specs.Signal.{is_cell_body};
+ghost use Rattle.re_terms.specs.Cells.{is_cell_body};
 ghost use Rattle.re_types.specs.Resolving.{has_room_behind, is_raw_device, is_raw_cell, is_raw_replicated};
 
 use re_terms::{Body, RawBody};

@@ -1,7 +1,7 @@
 use Rattle.std.proofs.Common.{◌≡◌, ◌<◌, ◌++◌, ℕ, length, drop}
 use Rattle.std.specs.Prelude.{slice_index}
 use Rattle.re_terms.specs.Plain.{start_words}
-use Rattle.re_terms.specs.Signal.{cell_place}
+use Rattle.re_terms.specs.Cells.{cell_place}
 use Rattle.re_tool.proofs.device.Device.start.Given as goal
 
 abbrev pub invariant-loop-decl : goal.invariant-loop-decl
