@@ -9,6 +9,8 @@ mod meaning;
 mod names;
 mod parts;
 mod raw_line;
+#[cfg(test)]
+mod tests;
 mod words;
 
 pub use commanding::command;
