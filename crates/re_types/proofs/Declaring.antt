@@ -36,7 +36,7 @@ each-push P xs x before last i d e =
       | inr h ↦ subst (λ l. P l d) (sym (ap (λ n. take n (xs ++ x ∷ [])) h.0 ∙ take-append_seam xs (x ∷ []))) (subst (λ y. P xs y) h.1 last)
     ]
 
-count_by-push : {A : Type 0} (p : A → Bool) (xs : List A) (x : A) → count_by p (xs ++ x ∷ []) ≡ count_by p xs + (if p x then 1 else 0)
+pub count_by-push : {A : Type 0} (p : A → Bool) (xs : List A) (x : A) → count_by p (xs ++ x ∷ []) ≡ count_by p xs + (if p x then 1 else 0)
 count_by-push p xs x = sum_by-append (λ y. cond (p y) 1 0) xs (x ∷ []) ∙ ap (λ n. count_by p xs + n) (zero-add (cond (p x) 1 0))
 
 length-push : {A : Type 0} (xs : List A) (x : A) → length (xs ++ x ∷ []) ≡ length xs + 1

@@ -1,8 +1,12 @@
+pub mod Acts
 pub mod CapitalNames
 pub mod Conjunctions
 pub mod Declaring
 pub mod NameTables
+pub mod Numbers
 pub mod Operands
 pub mod Outcomes
+pub mod PutOrder
 pub mod Remaining
 pub mod Sorts
+pub mod Turns

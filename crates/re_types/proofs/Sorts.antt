@@ -40,7 +40,7 @@ pub sorts_of-length : (decls : List Decl) → length (sorts_of decls) ≡ length
 sorts_of-length decls = fold-length [] decls ∙ zero-add (length decls)
 
 -- a declaration splits the list
-split_at : (decls : List Decl) (id : ℕ) (d : Decl) → slice_get decls id ≡ Some d → decls ≡ take id decls ++ d ∷ drop (suc id) decls
+pub split_at : (decls : List Decl) (id : ℕ) (d : Decl) → slice_get decls id ≡ Some d → decls ≡ take id decls ++ d ∷ drop (suc id) decls
 split_at decls id d at =
     let within = slice_get_within decls id d at in
     sym (take-append-drop id decls) ∙ ap (λ rest. take id decls ++ rest) (drop-cons decls id d within ∙ ap (λ x. x ∷ drop (suc id) decls) (get_or_from_slice_get decls id d d at))
