@@ -42,11 +42,11 @@ literal_completes = record {
 pub region_completes : Completes ARegion
 region_completes = record { value = 1; ahead = []; whole = λ limit other k n room h. subst (λ (q : ℕ). Region other 1 k q) (sym h) unwritten }
 
-no_kind : (k : Kind) → kind_of mark.End ≡ Some k → ⊥
+pub no_kind : (k : Kind) → kind_of mark.End ≡ Some k → ⊥
 unfolding kind_of
 no_kind k e = cc
 
-same_kind : {m : Option Kind} {a b : Kind} → m ≡ Some a → m ≡ Some b → b ≡ a
+pub same_kind : {m : Option Kind} {a b : Kind} → m ≡ Some a → m ≡ Some b → b ≡ a
 same_kind c d = cc
 
 pub kind_accepts : (tokens : List Token) (i : ℕ) (w : ℕ) (k : Kind) → i < length tokens → EndsLast tokens → text tokens i ≡ mark.Reserved w → kind_of (mark.Reserved w) ≡ Some k → Accepts AKind nothing 0 tokens k i (i + 1)
@@ -128,7 +128,7 @@ negative_only k other _ _ _ h f (truth g) = absurd (omega (arith, clash h g))
 negative_only k other _ _ _ h f (falsity g) = absurd (omega (arith, clash h g))
 negative_only k other _ _ _ h f (name g) = absurd (omega (arith, clash h g))
 
-no_end : {m : Mark} → 0 < form m → mark.End ≡ m → ⊥
+pub no_end : {m : Mark} → 0 < form m → mark.End ≡ m → ⊥
 no_end {m} h e = let f : form mark.End ≡ form m = ap form e in omega arith
 
 pub number_accepts : (tokens : List Token) (i k : ℕ) → i < length tokens → EndsLast tokens → text tokens i ≡ mark.Number k → k < 2 ^ 63 → Accepts ALiteral nothing 0 tokens (literal.Int (pos k)) i (i + 1)

@@ -52,7 +52,7 @@ no_primary_if opened limit other _ _ _ h (fault g _ _ _ _ _) = omega (arith, cla
 no_primary_if opened limit other _ _ _ h (size g _ _ _) = omega (arith, clash h g)
 no_primary_if opened limit other _ _ _ h (membership g _ _ _ _ _) = omega (arith, clash h g)
 
-no_level_if : {other : ℕ → Mark} {limit : ℕ → ℕ} {level opened : ℕ} {v : RawExpr} {i n : ℕ} → other i ≡ mark.Reserved IF → Reads other limit (Level level) opened v i n → ⊥
+pub no_level_if : {other : ℕ → Mark} {limit : ℕ → ℕ} {level opened : ℕ} {v : RawExpr} {i n : ℕ} → other i ≡ mark.Reserved IF → Reads other limit (Level level) opened v i n → ⊥
 no_level_if h (operands _ x _) = no_level_if h x
 no_level_if {other} {limit} h (primary {opened = opened} {i = i} {n = n} {e = e} _ x) = no_primary_if opened limit other e i n h x
 

@@ -120,7 +120,7 @@ progress_start tokens h = record {
   shallow = refl;
 }
 
-first_rest : (limit : ℕ → ℕ) (other : ℕ → Mark) (rest : List RawDecl) (here n next : ℕ) (d : RawDecl) (done : List RawDecl) → here < next → next ≤ n
+pub first_rest : (limit : ℕ → ℕ) (other : ℕ → Mark) (rest : List RawDecl) (here n next : ℕ) (d : RawDecl) (done : List RawDecl) → here < next → next ≤ n
     → ((e : RawDecl) (k : ℕ) → Declaration other limit e here k → (e ≡ d) × (k ≡ next)) → Declarations other limit rest here n
     → (ds : List RawDecl) × ((done ++ rest ≡ (done ++ (d ∷ [])) ++ ds) × Declarations other limit ds next n)
 first_rest limit other _ here _ next d done longer far only none = absurd (omega arith)
@@ -173,7 +173,7 @@ source_forward (mapped _ _ _ _ x _) = omega (arith, reads_forward x)
 source_forward (filtered _ _ _ _ x _) = omega (arith, reads_forward x)
 source_forward (either _ _ _ _ _ _) = omega arith
 
-content_forward : {at : ℕ → Mark} {limit : ℕ → ℕ} {word : ℕ} {b : RawBody} {i n : ℕ} → Content at limit word b i n → i ≤ n
+pub content_forward : {at : ℕ → Mark} {limit : ℕ → ℕ} {word : ℕ} {b : RawBody} {i n : ℕ} → Content at limit word b i n → i ≤ n
 content_forward (device _) = omega arith
 content_forward (symbol _) = omega arith
 content_forward (var _ _ _ _ l r) = omega (arith, literal_forward l, region_forward r)
@@ -188,7 +188,7 @@ content_forward (register _ _ _ _ l) = omega (arith, literal_forward l)
 declaration_forward : {at : ℕ → Mark} {limit : ℕ → ℕ} {d : RawDecl} {i n : ℕ} → Declaration at limit d i n → i ≤ n
 declaration_forward x = omega (arith, content_forward x.content, x.next)
 
-declarations_forward : {at : ℕ → Mark} {limit : ℕ → ℕ} {ds : List RawDecl} {i n : ℕ} → Declarations at limit ds i n → i ≤ n
+pub declarations_forward : {at : ℕ → Mark} {limit : ℕ → ℕ} {ds : List RawDecl} {i n : ℕ} → Declarations at limit ds i n → i ≤ n
 declarations_forward none = omega arith
 declarations_forward (more x y) = omega (arith, declaration_forward x, declarations_forward y)
 
@@ -221,7 +221,7 @@ ended_rest : (other : ℕ → Mark) (limit : ℕ → ℕ) (rest : List RawDecl) 
 ended_rest other limit _ here _ e none = (refl, refl)
 ended_rest other limit _ here _ e (more x y) = absurd (no_end x.begins e)
 
-append_none : (ds : List RawDecl) → ds ++ [] ≡ ds
+pub append_none : (ds : List RawDecl) → ds ++ [] ≡ ds
 append_none [] = refl
 append_none (d ∷ ds) = ap (λ (l : List RawDecl). d ∷ l) (append_none ds)
 

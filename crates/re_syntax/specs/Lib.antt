@@ -1,4 +1,5 @@
 pub mod Grammar
+pub mod OneAnswer
 pub mod Places
 pub mod Programs
 pub mod Steps

@@ -7,6 +7,7 @@ mod expression;
 mod fault;
 mod keeping;
 mod kept;
+pub mod laws;
 mod leaf;
 mod marks;
 mod parser;

@@ -171,12 +171,13 @@ module _ (shape : Shape) (log us : List Update) (causal : IsCausalLog log) (with
 
   kind_fits : (place : ℕ) (k : RKind) → slice_get shape.cells.items place ≡ Some k → IsWithin (content_of k place us) → FitsKind shape (vector_of us) k (content_of k place us)
   kind_fits place kind.Counter found h = (record { places = row_places increment place; bounded = h.0; none = no_row increment place }, record { places = row_places decrement place; bounded = h.1; none = no_row decrement place })
-  kind_fits place (kind.Set k) found h = (pairs_ascend AddWins place us, set_fits place k found)
+  kind_fits place (kind.Set k) found h = (pairs_ascend AddWins place us, set_fits place k found, refl)
   kind_fits place (kind.Register k start) found h = register_fits place k start found h
 
   pub state_fits : IsWithinLimits (state_of_updates shape us) → FitsShape shape (state_of_updates shape us)
   state_fits limits =
       record {
+        plain = refl;
         counts = record { places = count_places; bounded = limits.counts; none = no_counts };
         count = contents-length shape.cells.items 0 us;
         cells = λ place k c found is.

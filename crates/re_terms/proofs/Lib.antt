@@ -16,3 +16,4 @@ pub mod Ordered
 pub mod Unions
 pub mod Values
 pub mod WordOrders
+pub mod Dots

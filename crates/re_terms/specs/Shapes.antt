@@ -91,10 +91,10 @@ pub record FitsRegister (shape : Shape) (k : Kind) (start : Word) (w : Written) 
   pub unwritten : w.stamp ≡ 0 → (w.device ≡ 0) × (w.word ≡ start)
   pub written : 0 < w.stamp → (w.device < shape.devices) × (is_word_of shape.symbols k w.word ≡ true)
 
--- a cell is of this kind, and its numbers are in their ranges
+-- a cell is of this kind, its numbers are in their ranges, and nothing is reserved in its list
 abbrev pub FitsKind : Shape → List ℕ → RKind → RCell → Type 0
 FitsKind shape counts replicated.Counter (cell.Counter rows) = AreOfDevices shape.devices (2 ^ 63) rows.plus × AreOfDevices shape.devices (2 ^ 63) rows.minus
-FitsKind shape counts (replicated.Set k) (cell.Set pairs) = IsStrictlySortedBy pair_cmp pairs.items × (list_all (is_pair_of shape k counts) pairs.items ≡ true)
+FitsKind shape counts (replicated.Set k) (cell.Set pairs) = IsStrictlySortedBy pair_cmp pairs.items × (list_all (is_pair_of shape k counts) pairs.items ≡ true) × (pairs.spare ≡ 0)
 FitsKind shape counts (replicated.Register k start) (cell.Register w) = FitsRegister shape k start w
 FitsKind shape counts k c = ⊥
 
@@ -103,8 +103,9 @@ abbrev pub pair_count : RCell → ℕ
 pair_count (cell.Set pairs) = length pairs.items
 pair_count c = 0
 
--- a replicated state of this shape
+-- a replicated state of this shape, with nothing reserved in its list of cells
 pub record FitsShape (shape : Shape) (r : RState) : Type 0 where
+  pub plain : r.cells.spare ≡ 0
   pub counts : AreOfDevices shape.devices (2 ^ 48) r.vector.counts
   pub count : length r.cells.items ≡ length shape.cells.items
   pub cells : (place : ℕ) (k : RKind) (c : RCell) → slice_get shape.cells.items place ≡ Some k → slice_get r.cells.items place ≡ Some c → FitsKind shape r.vector.counts k c

@@ -1,5 +1,5 @@
 -- Lists of updates as sets: each once, in whatever order.
--- Read against: the lists of u, v and of v, u have the same updates; the union of u, v with v, w is u, v, w.
+-- Read against: the lists of u, v and of v, u have the same updates; the union of u, v with v, w is u, v, w, where the vector of u and v doesn't cover w.
 use Rattle.std.specs.Prelude.{not, List, [], ◌∷◌, ◌++◌}
 use Rattle.std.specs.List.{filter}
 use Rattle.re_terms.specs.Updates.{Update, IsIn, vector_of}

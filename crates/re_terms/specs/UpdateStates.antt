@@ -68,6 +68,10 @@ raise device n row = slice_set row device (slice_index row device + n)
 unfoldable pub without : Word → List Pair → List Pair
 without e ps = filter (λ p. not (same_word p.element e)) ps
 
+-- a set's pairs after an insert: those of the element give way to the one with the new dot
+abbrev pub pairs_after : Dot → Word → List Pair → List Pair
+pairs_after dot e ps = ascending (record { element = e; dot = dot } ∷ without e ps)
+
 -- a counter's rows after a device's amount: the increments are raised by an amount of 0 or more, else the decrements by its magnitude
 abbrev pub rows_after : ℕ → ℤ → Rows → Rows
 rows_after device amount rows = record { plus = raise device (increment (Add amount)) rows.plus; minus = raise device (decrement (Add amount)) rows.minus }
@@ -79,7 +83,7 @@ written_after device w r = record { stamp = r.stamp + 1; device = device; word =
 -- what an act with this dot does to a cell of this kind; an act that the kind doesn't allow does nothing
 abbrev pub act_on : RKind → Dot → Act → RCell → RCell
 act_on kind.Counter dot (Add n) (content.Counter a) = content.Counter (rows_after dot.device n a)
-act_on (kind.Set k) dot (Insert e) (content.Set ps) = content.Set (plain (ascending (record { element = e; dot = dot } ∷ without e ps.items)))
+act_on (kind.Set k) dot (Insert e) (content.Set ps) = content.Set (plain (pairs_after dot e ps.items))
 act_on (kind.Set k) dot (Remove e) (content.Set ps) = content.Set (plain (without e ps.items))
 act_on (kind.Register k start) dot (Write w) (content.Register r) = content.Register (written_after dot.device w r)
 act_on k dot act c = c

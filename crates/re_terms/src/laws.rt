@@ -4,8 +4,8 @@ ghost use Rattle.re_terms.specs.JointLogs.{Further, all_of, IsOneOf, AllFollow};
 ghost use Rattle.re_terms.specs.Replication.{JoinLaw};
 ghost use Rattle.re_terms.specs.ShapedUpdates.{IsWithinLimits, is_update_of};
 ghost use Rattle.re_terms.specs.Shapes.{FitsShape, start_replicated};
-ghost use Rattle.re_terms.specs.Updates.{Update, IsCausalLog, IsCausallyClosed, IsIn, IsNext, count_of, covered, next_update, operation_of};
-ghost use Rattle.re_terms.specs.UpdateSets.{SameUpdates, union};
+ghost use Rattle.re_terms.specs.Updates.{Update, IsCausalLog, IsCausallyClosed, IsIn, IsNext, count_of, covered, next_update, operation_of, vector_of};
+ghost use Rattle.re_terms.specs.UpdateSets.{EachOnce, SameUpdates, union};
 ghost use Rattle.re_terms.specs.UpdateStates.{after_operation, join_states, state_of_updates};
 ghost use Rattle.re_terms.specs.Values.{view_of_updates};
 ghost use Rattle.re_terms.specs.Vectors.{join_vectors, with_dot};
@@ -28,6 +28,14 @@ pub trait Replicated {
 
     ghost join_law: { (start : Word) (cell : ℕ) → JoinLaw merged (made start cell) };
 }
+
+/// No dot names two updates of a causal log, each update stands in it once, and a causally closed vector is the vector of
+/// what it covers.
+pub fn dots_law()
+    ensures one { (log : List Update) (u w : Update) → IsCausalLog log → IsIn u log → IsIn w log → u.dot ≡ w.dot → u ≡ w }
+    ensures each { (log : List Update) → IsCausalLog log → EachOnce log }
+    ensures vector { (log : List Update) (v : List ℕ) → IsCausalLog log → IsCausallyClosed log v → length v ≡ 16 → vector_of (covered log v) ≡ v }
+{}
 
 /// The join of the states of two causally closed parts of a log is the state of what either covers, which is causally
 /// closed again.

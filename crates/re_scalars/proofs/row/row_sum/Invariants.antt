@@ -1,0 +1,10 @@
+use Rattle.std.proofs.Common.{◌≡◌, ◌*◌, ◌≤◌, take}
+use Rattle.std.specs.List.{sum}
+use Rattle.re_scalars.proofs.row.row_sum.Given as goal
+
+abbrev pub invariant-loop-number : goal.invariant-loop-number
+invariant-loop-number l =
+    record {
+      so_far : l.sum ≡ sum (take l.number-index l.row);
+      bounded : l.sum ≤ l.number-index * 18446744073709551615;
+    }
