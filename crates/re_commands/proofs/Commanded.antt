@@ -1,7 +1,7 @@
 -- What the tokens of a line make of it.
-use Rattle.std.proofs.Common.{ℕ, ◌≡◌, ◌≢◌, ◌≤◌, nat_lt, List, [], ◌∷◌, length, Option, Some, None, Result, Ok, Err, refl, sym, ap, ◌∙◌}
+use Rattle.std.proofs.Common.{ℕ, ◌≡◌, ◌≢◌, ◌<◌, ◌≤◌, ◌↔◌, ◌⊎◌, inl, inr, nat_lt, List, [], ◌∷◌, length, Option, Some, None, Result, Ok, Err, refl, sym, ap, ◌∙◌}
 use Rattle.std.specs.Result.{IsErrAnd}
-use Rattle.std.proofs.lemmas.Bool.{cond-false, le-ltb}
+use Rattle.std.proofs.lemmas.Bool.{cond-true, cond-false, cases_lt, lt-ltb, le-ltb}
 use Rattle.re_terms.specs.declared.token.Mark.{Mark}
 use Rattle.re_terms.specs.declared.token.Token.{Token}
 use Rattle.re_terms.specs.declared.program.Program.{Program}
@@ -59,3 +59,30 @@ pub place_fault : {S : Type 0} (p : Program) (line : List ℕ) (e : LexFault) (r
 place_fault p line e (Ok c) short none k other = absurd k
 place_fault p line lex.Memory (Err f) short none k other = absurd (other (ap Err k))
 place_fault p line (lex.At place) (Err f) short none k other = ap Err k ∙ sym (place_meant p line place short (none place refl))
+
+-- what has the fault of syntax, or a command, is not nothing
+made_some : (r : Result Command CommandFault) → made Some r ≡ Ok None → ⊥
+made_some (Ok c) e = absurd (cc)
+made_some (Err f) e = absurd (cc)
+
+none_marks : (p : Program) (o : Option (List Mark)) → marks_meant p o ≡ Ok None → o ≡ Some []
+none_marks p None e = absurd (cc)
+none_marks p (Some []) e = refl
+none_marks p (Some (m ∷ marks)) e = absurd (made_some (line_meant p (read_line (m ∷ marks))) e)
+
+pub long : (p : Program) (line : List ℕ) → 1024 < length line → commanded p line ≡ Err fault.Syntax
+long p line h = cond-true (nat_lt 1024 (length line)) (Err fault.Syntax) (marks_meant p (tokens_of line)) (lt-ltb 1024 (length line) h)
+
+pub no_token : (p : Program) (line : List ℕ) (place : ℕ) → NoTokenAt line place → commanded p line ≡ Err fault.Syntax
+no_token p line place n = by (cases_lt 1024 (length line))
+  where
+    by : (1024 < length line) ⊎ (length line ≤ 1024) → commanded p line ≡ Err fault.Syntax
+    by (inl h) = long p line h
+    by (inr h) = place_meant p line place h n
+
+pub nothing : (p : Program) (line : List ℕ) → (commanded p line ≡ Ok None) ↔ ((length line ≤ 1024) × (tokens_of line ≡ Some []))
+nothing p line = (λ e. by e (cases_lt 1024 (length line)), λ h. short_meant p line (Some []) h.0 h.1)
+  where
+    by : commanded p line ≡ Ok None → (1024 < length line) ⊎ (length line ≤ 1024) → (length line ≤ 1024) × (tokens_of line ≡ Some [])
+    by e (inl h) = let k = long p line h in absurd (cc)
+    by e (inr h) = (h, none_marks p (tokens_of line) (sym (short_meant p line (tokens_of line) h refl) ∙ e))

@@ -2,7 +2,7 @@
 use Rattle.std.proofs.Common.{ℕ, suc, ◌≡◌, Bool, true, List, [], ◌∷◌, nat_le, Some, unwrap_or, refl, sym, ap, subst, ◌∙◌}
 use Rattle.std.proofs.lemmas.Bool.{and_parts}
 use Rattle.re_terms.specs.Listed.{Listed}
-use Rattle.re_terms.specs.Tokens.{is_mark, ends_well, ends_from, IsTokenList}
+use Rattle.re_terms.specs.Tokens.{ends_well, ends_from, IsTokenList}
 use Rattle.re_terms.specs.Trees.{is_name_text}
 use Rattle.re_terms.specs.declared.token.Mark.{Mark}
 use Rattle.re_terms.specs.declared.token.Mark.TheVariants as mark

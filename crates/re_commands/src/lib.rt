@@ -3,6 +3,7 @@
 
 mod commanding;
 mod fault;
+pub mod laws;
 mod leaves;
 mod lines;
 mod meaning;
