@@ -1,5 +1,5 @@
 -- Which acts a replicated cell takes.
-use Rattle.std.proofs.Common.{ℕ, ◌≡◌, true, false, Option, Some, None, refl, sym, ap, ◌∙◌}
+use Rattle.std.proofs.Common.{ℕ, ◌≡◌, true, Option, Some, None, sym, ap, ◌∙◌}
 use Rattle.re_terms.specs.Layouts.{layout_of, is_allowed}
 use Rattle.re_terms.specs.Programs.{is_literal_word}
 use Rattle.re_terms.specs.Shapes.{is_word_of}
@@ -11,21 +11,6 @@ use Rattle.re_terms.specs.declared.replicated.Act.TheVariants as act
 use Rattle.re_terms.specs.declared.replicated.RKind.{RKind}
 use Rattle.re_terms.specs.declared.replicated.RKind.TheVariants as kind
 use Rattle.re_types.specs.Parts.{is_literal_act, word_of, word_kind}
-
--- an act that is refused
-pub not_allowed : (symbols : ℕ) (r : RKind) (a : Act) → is_allowed r a ≡ false → is_act_of symbols r a ≡ false
-not_allowed symbols kind.Counter (act.Add z) e = absurd (cc)
-not_allowed symbols kind.Counter (act.Insert w) e = refl
-not_allowed symbols kind.Counter (act.Remove w) e = refl
-not_allowed symbols kind.Counter (act.Write w) e = refl
-not_allowed symbols (kind.Set k) (act.Add z) e = refl
-not_allowed symbols (kind.Set k) (act.Insert w) e = absurd (cc)
-not_allowed symbols (kind.Set k) (act.Remove w) e = absurd (cc)
-not_allowed symbols (kind.Set k) (act.Write w) e = refl
-not_allowed symbols (kind.Register k start) (act.Add z) e = refl
-not_allowed symbols (kind.Register k start) (act.Insert w) e = refl
-not_allowed symbols (kind.Register k start) (act.Remove w) e = refl
-not_allowed symbols (kind.Register k start) (act.Write w) e = absurd (cc)
 
 same : (symbols : ℕ) (j k : Kind) (v w : Word) → ◌≡◌ {A = Option Kind} (Some j) (Some k) → ◌≡◌ {A = Option Word} (Some v) (Some w) → is_word_of symbols j v ≡ is_word_of symbols k w
 same symbols j k v w e f =

@@ -1,7 +1,7 @@
 -- What parts mean: the turn where no fault holds, and that a program allows it.
 use Rattle.std.proofs.Common.{ℕ, zero, suc, ◌≡◌, ◌≢◌, ◌<◌, ◌≤◌, ◌+◌, ◌==◌, ◌||◌, Bool, true, false, cond, if◌then◌else◌, List, [], ◌∷◌, ◌++◌, length, take, drop, get_or, nat_lt, Option, Some, None, is_some, Result, Ok, Err, refl, sym, ap, subst, ◌∙◌, arith}
 use Rattle.std.specs.Prelude.{slice_get, count_by, option_map}
-use Rattle.std.specs.List.{filter_map, cons_option, list_all}
+use Rattle.std.specs.List.{filter_map, cons_option, list_all, list_any}
 use Rattle.std.specs.Option.{option_map_or}
 use Rattle.std.proofs.lemmas.Bool.{lt-ltb}
 use Rattle.std.proofs.lemmas.List.{append-nil, take_more}
@@ -32,7 +32,7 @@ use Rattle.re_terms.specs.declared.raw_expr.RawLit.{RawLit}
 use Rattle.re_terms.specs.declared.raw.RawPart.{RawPart}
 use Rattle.re_terms.specs.declared.raw.RawPart.TheVariants as raw
 use Rattle.re_types.specs.Resolving.{place_of, scope_of, start_word}
-use Rattle.re_types.specs.Admitting.{knows_part, put_on, put_of, operation_of, set_of, fire_of, act_of, keeps_kind, sets_of, fires_of, is_twice, by_id, turn_of, turn_or_fault}
+use Rattle.re_types.specs.Admitting.{knows_part, put_on, put_of, operation_of, set_of, fire_of, act_of, keeps_kind, sets_of, fires_of, some_set, some_fire, is_twice, by_id, turn_of, turn_or_fault}
 use Rattle.re_types.specs.Parts.{set_in, fire_in, operation_in, with_part, turn_in_order}
 use Rattle.re_types.specs.PutOrder.{IsOrderOf}
 use Rattle.re_types.specs.declared.parts.Part.{Part}
@@ -55,9 +55,9 @@ from-only_if false x y e = absurd (cc)
 put_of-is : (kind_of : Body → Option Kind) (decls : List Decl) (name : Listed ℕ) (lit : RawLit) (put : Put) → put_of kind_of decls name lit ≡ Some put → is_put_of kind_of decls put ≡ true
 put_of-is kind_of decls name lit put e =
     from-bind (place_of (names_of decls) name.items) _ put (is_put_of kind_of decls put ≡ true) (λ id _ f.
-        from-bind (start_word (scope_of decls) lit) _ put (is_put_of kind_of decls put ≡ true) (λ w _ g.
-            let parts = from-only_if (is_put_of kind_of decls (put_on id w)) (put_on id w) put g in
-            ap (is_put_of kind_of decls) (sym parts.1) ∙ parts.0) f) e
+    from-bind (start_word (scope_of decls) lit) _ put (is_put_of kind_of decls put ≡ true) (λ w _ g.
+    let parts = from-only_if (is_put_of kind_of decls (put_on id w)) (put_on id w) put g in
+    ap (is_put_of kind_of decls) (sym parts.1) ∙ parts.0) f) e
 
 -- a declaration is a replicated cell exactly where it has such a kind
 kind-replicated : (b : Body) → is_some (replicated_kind b) ≡ is_replicated_body b
@@ -97,20 +97,20 @@ replicated-at decls id d k at is =
     let first = replicated_kinds (take id decls) in
     let rest = replicated_kinds (drop (suc id) decls) in
     let whole : replicated_kinds decls ≡ first ++ k ∷ rest =
-        ap replicated_kinds (split_at decls id d at) ∙ filter_map-append (λ (x : Decl). replicated_kind x.body) (take id decls) (d ∷ drop (suc id) decls) ∙ ap (λ o. first ++ cons_option o rest) is in
+    ap replicated_kinds (split_at decls id d at) ∙ filter_map-append (λ (x : Decl). replicated_kind x.body) (take id decls) (d ∷ drop (suc id) decls) ∙ ap (λ o. first ++ cons_option o rest) is in
     ap (λ kinds. slice_get kinds (replicated_place decls id)) whole ∙ ap (slice_get (first ++ k ∷ rest)) (sym (kinds-count (take id decls))) ∙ slice_get-between first k rest
 
 operation_of-is : (decls : List Decl) (name : Listed ℕ) (a : Option Act) (op : RepOp) → operation_of decls name a ≡ Some op → is_operation_of decls op ≡ true
 operation_of-is decls name a op e =
     let P : Type 0 = is_operation_of decls op ≡ true in
     from-bind (place_of (names_of decls) name.items) _ op P (λ id _ f.
-        from-bind (slice_get decls id) _ op P (λ d at g.
-            from-bind (replicated_kind d.body) _ op P (λ k is h.
-                from-bind a _ op P (λ v _ i.
-                    let own : RepOp = record { cell = replicated_place decls id; act = v } in
-                    let parts = from-only_if (is_act_of (symbol_count decls) k v) own op i in
-                    let found = ap (λ o. option_map_or (λ j. is_act_of (symbol_count decls) j v) o false) (replicated-at decls id d k at is) in
-                    ap (is_operation_of decls) (sym parts.1) ∙ found ∙ parts.0) h) g) f) e
+    from-bind (slice_get decls id) _ op P (λ d at g.
+    from-bind (replicated_kind d.body) _ op P (λ k is h.
+    from-bind a _ op P (λ v _ i.
+    let own : RepOp = record { cell = replicated_place decls id; act = v } in
+    let parts = from-only_if (is_act_of (symbol_count decls) k v) own op i in
+    let found = ap (λ o. option_map_or (λ j. is_act_of (symbol_count decls) j v) o false) (replicated-at decls id d k at is) in
+    ap (is_operation_of decls) (sym parts.1) ∙ found ∙ parts.0) h) g) f) e
 
 set_of-is : (decls : List Decl) (x : RawPart) (put : Put) → set_of decls x ≡ Some put → is_put_of var_kind decls put ≡ true
 set_of-is decls (raw.Put name lit) put e = put_of-is var_kind decls name lit put e
@@ -143,6 +143,14 @@ all-cons_option p None xs h all = all
 all-filter_map : {A B : Type 0} (p : B → Bool) (h : A → Option B) (xs : List A) → ((x : A) (y : B) → h x ≡ Some y → p y ≡ true) → list_all p (filter_map h xs) ≡ true
 all-filter_map p h [] each = refl
 all-filter_map p h (x ∷ xs) each = all-cons_option p (h x) (filter_map h xs) (each x) (all-filter_map p h xs each)
+
+any-cons_option : {A : Type 0} (p : A → Bool) (o : Option A) (xs : List A) → list_any p (cons_option o xs) ≡ (option_map_or p o false || list_any p xs)
+any-cons_option p (Some x) xs = refl
+any-cons_option p None xs = refl
+
+any-filter_map : {A B : Type 0} (p : B → Bool) (h : A → Option B) (xs : List A) → list_any p (filter_map h xs) ≡ list_any (λ x. option_map_or p (h x) false) xs
+any-filter_map p h [] = refl
+any-filter_map p h (x ∷ xs) = any-cons_option p (h x) (filter_map h xs) ∙ ap (λ b. option_map_or p (h x) false || b) (any-filter_map p h xs)
 
 all-weaker : {A : Type 0} (p q : A → Bool) (xs : List A) → ((x : A) → p x ≡ true → q x ≡ true) → list_all p xs ≡ true → list_all q xs ≡ true
 all-weaker p q [] h all = refl
@@ -232,6 +240,13 @@ turn_admitted p parts t o some few =
       few = omega (arith, sets, fires, count, lengths, few);
     }
 
+-- its puts are those of the parts
+pub turn_sets : (decls : List Decl) (parts : List RawPart) (t : Turn) → AreOrdered decls parts t → (test : Put → Bool) → list_any test t.sets.items ≡ some_set decls test parts
+turn_sets decls parts t o test = o.sets.any test ∙ any-filter_map test (set_of decls) parts
+
+pub turn_fires : (decls : List Decl) (parts : List RawPart) (t : Turn) → AreOrdered decls parts t → (test : Put → Bool) → list_any test t.fires.items ≡ some_fire decls test parts
+turn_fires decls parts t o test = o.fires.any test ∙ any-filter_map test (fire_of decls) parts
+
 -- the faults, each where those before it don't hold
 pub kind-fault : (decls : List Decl) (parts : List RawPart) → list_all (knows_part (names_of decls)) parts ≡ true → list_all (keeps_kind decls) parts ≡ false → turn_or_fault decls parts ≡ Err fault.Kind
 kind-fault decls parts known kinds = rw (known, kinds) refl
@@ -241,9 +256,6 @@ twice-set decls parts known kinds twice = rw (known, kinds, twice) refl
 
 pub twice-fired : (decls : List Decl) (parts : List RawPart) → list_all (knows_part (names_of decls)) parts ≡ true → list_all (keeps_kind decls) parts ≡ true → is_twice (sets_of decls parts) ≡ false → is_twice (fires_of decls parts) ≡ true → turn_or_fault decls parts ≡ Err fault.Twice
 twice-fired decls parts known kinds once twice = rw (known, kinds, once, twice) refl
-
-pub empty-fault : (decls : List Decl) (parts : List RawPart) (t : Turn) → AreOrdered decls parts t → (length parts == 0) ≡ true → turn_or_fault decls parts ≡ Err fault.Empty
-empty-fault decls parts t o none = rw (o.known, o.kinds, o.sets.once, o.fires.once, none) refl
 
 pub many-fault : (decls : List Decl) (parts : List RawPart) (t : Turn) → AreOrdered decls parts t → (length parts == 0) ≡ false → nat_lt 64 (length parts) ≡ true → turn_or_fault decls parts ≡ Err fault.TooMany
 many-fault decls parts t o some many = rw (o.known, o.kinds, o.sets.once, o.fires.once, some, many) refl
@@ -291,9 +303,10 @@ pub next-part : (decls : List Decl) (parts : List RawPart) (i : ℕ) (x : RawPar
     → (new ≡ turn_in_order decls (take (i + 1) parts)) × (list_all (keeps_kind decls) (take (i + 1) parts) ≡ true)
 next-part decls parts i x p old new within is s f a turn kinds e =
     let more : take (i + 1) parts ≡ take i parts ++ x ∷ [] = take_more parts i x within ∙ ap (λ y. take i parts ++ y ∷ []) (sym is) in
-    let keeps : keeps_kind decls (get_or parts i x) ≡ true = ap (keeps_kind decls) (sym is) ∙ keeps-some decls x p s f a in
-    (e ∙ ap (λ t. with_part t p) turn ∙ push-part decls (take i parts) x p s f a ∙ ap (turn_in_order decls) (sym more),
-     list_all_more (keeps_kind decls) parts i x within ∙ rw (kinds, keeps) refl)
+    let keeps : keeps_kind decls (get_or parts i x) ≡ true = ap (keeps_kind decls) (sym is) ∙ keeps-some decls x p s f a in (
+      e ∙ ap (λ t. with_part t p) turn ∙ push-part decls (take i parts) x p s f a ∙ ap (turn_in_order decls) (sym more),
+      list_all_more (keeps_kind decls) parts i x within ∙ rw (kinds, keeps) refl,
+    )
 
 -- where nothing stands twice
 pub are_ordered : (decls kept : List Decl) (parts : List RawPart) (t : Turn) (seen_sets seen_fires : List Put) (sets fires : Listed Put) → kept ≡ decls

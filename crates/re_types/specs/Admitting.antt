@@ -2,7 +2,8 @@
 -- Read against: on `device a; symbol red; var x: int = 0; event e: int; signal s = x; counter c;` the parts `add c 1, fire e 3, x = 2` set 2 to 2, fire 3 with 3 and add 1 to cell 0;
 -- `s = 1, y = 2` hold an unknown name, `x = 1, x = 2, s = 1` and `x = red` break a kind rule, `x = 1, x = 2` set x twice, no part is no turn, and 65 times `add c 1` are too many.
 use Rattle.std.specs.Prelude.{ℕ, ◌==◌, ◌&&◌, ◌||◌, not, Bool, false, if◌then◌else◌, List, [], ◌∷◌, length, nat_lt, Option, None, Some, is_some, option_map, Result, Ok, Err, slice_get}
-use Rattle.std.specs.List.{filter_map, list_all, range_with_len}
+use Rattle.std.specs.List.{filter_map, list_all, list_any, range_with_len}
+use Rattle.std.specs.Option.{option_map_or}
 use Rattle.re_terms.specs.Listed.{Listed, plain}
 use Rattle.re_terms.specs.Kinds.{◌>>=◌, only_if}
 use Rattle.re_terms.specs.Programs.{names_of}
@@ -87,6 +88,14 @@ sets_of decls parts = filter_map (set_of decls) parts
 -- all source events that they fire
 abbrev pub fires_of : List Decl → List RawPart → List Put
 fires_of decls parts = filter_map (fire_of decls) parts
+
+-- a part sets a var by a put that passes the test
+abbrev pub some_set : List Decl → (Put → Bool) → List RawPart → Bool
+some_set decls test parts = list_any (λ x. option_map_or test (set_of decls x) false) parts
+
+-- a part fires a source event by one that does
+abbrev pub some_fire : List Decl → (Put → Bool) → List RawPart → Bool
+some_fire decls test parts = list_any (λ x. option_map_or test (fire_of decls x) false) parts
 
 -- an id stands twice
 abbrev pub is_twice : List Put → Bool

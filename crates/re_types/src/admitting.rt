@@ -1,15 +1,15 @@
 //! Admits turns.
-ghost use Rattle.std.specs.Prelude.{◌≡◌, ◌≢◌, ◌≤◌, true, false, length, count_by, IfOk, IfErr, OnOk, Err};
-ghost use Rattle.std.specs.List.{list_all};
+ghost use Rattle.std.specs.Prelude.{Bool, ◌≡◌, ◌≢◌, ◌≤◌, true, false, length, count_by, IfOk, IfErr, OnOk, Err};
+ghost use Rattle.std.specs.List.{list_all, list_any};
 ghost use Rattle.re_terms.specs.Programs.{IsProgram, is_replicated};
 ghost use Rattle.re_terms.specs.Admission.{IsAdmitted};
-ghost use Rattle.re_types.specs.Admitting.{admitted, keeps_kind, turn_or_fault};
+ghost use Rattle.re_types.specs.Admitting.{admitted, keeps_kind, some_set, some_fire, turn_or_fault};
 ghost use Rattle.re_types.specs.Parts.{with_part, turn_in_order};
 
 use crate::AdmitFault;
 use crate::parts::{Part, know_parts, part_of};
 use crate::puts::ascending;
-use re_terms::{Admitted, Decl, Program, RawPart, RawTurn, Seq, Turn};
+use re_terms::{Admitted, Decl, Program, Put, RawPart, RawTurn, Seq, Turn};
 use std::alloc::{AllocError, Global};
 
 const MAX_PARTS: usize = 64;
@@ -26,11 +26,7 @@ fn push(turn: &mut Turn, part: Part) -> Result<(), AllocError>
 }
 
 /// What the parts mean, in their order. `Kind` where one is of wrong kind.
-fn resolved_parts(
-    alloc: Global,
-    decls: &[Decl],
-    parts: &[RawPart],
-) -> Result<Turn, AdmitFault>
+fn resolved_parts(alloc: Global, decls: &[Decl], parts: &[RawPart]) -> Result<Turn, AdmitFault>
     requires few { length decls.now ≤ 512 }
     requires replicated { count_by is_replicated decls.now ≤ 32 }
     ensures turn { IfOk result (λ t. t ≡ turn_in_order decls.now parts.now) }
@@ -56,6 +52,8 @@ fn admit_parts(alloc: Global, p: &Program, parts: &[RawPart]) -> Result<Admitted
     requires { IsProgram p.now }
     ensures answer { result ≢ Err AdmitFault.Memory → result ≡ turn_or_fault p.now.decls.items parts.now }
     ensures admitted { IfOk result (λ a. IsAdmitted p.now a.turn) }
+    ensures sets { IfOk result (λ a. (test : Put → Bool) → list_any test a.turn.sets.items ≡ some_set p.now.decls.items test parts.now) }
+    ensures fires { IfOk result (λ a. (test : Put → Bool) → list_any test a.turn.fires.items ≡ some_fire p.now.decls.items test parts.now) }
 {
     let decls = p.decls.as_slice();
     if !know_parts(decls, parts) {
@@ -87,6 +85,8 @@ pub fn admit(alloc: Global, p: &Program, raw: RawTurn) -> Result<Admitted, Admit
     requires { IsProgram p.now }
     ensures answer { result ≢ Err AdmitFault.Memory → result ≡ admitted p.now raw }
     ensures admitted { IfOk result (λ a. IsAdmitted p.now a.turn) }
+    ensures sets { IfOk result (λ a. (test : Put → Bool) → list_any test a.turn.sets.items ≡ some_set p.now.decls.items test raw.parts.items) }
+    ensures fires { IfOk result (λ a. (test : Put → Bool) → list_any test a.turn.fires.items ≡ some_fire p.now.decls.items test raw.parts.items) }
     ensures unknown { result ≡ Err AdmitFault.Unknown → admitted p.now raw ≡ Err AdmitFault.Unknown }
     ensures kind { result ≡ Err AdmitFault.Kind → admitted p.now raw ≡ Err AdmitFault.Kind }
     ensures twice { result ≡ Err AdmitFault.Twice → admitted p.now raw ≡ Err AdmitFault.Twice }

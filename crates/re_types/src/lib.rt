@@ -17,6 +17,8 @@ mod scope;
 mod sort;
 #[cfg(test)]
 mod tests;
+#[cfg(test)]
+mod turn_tests;
 
 pub use admitting::admit;
 pub use fault::{AdmitFault, TypeFault};

@@ -94,6 +94,9 @@ pub fn cell(decls: &[Decl], place: usize) -> u8
     requires within { place < length decls.now }
     ensures { result ≡ replicated_place decls.now place }
 {
-    let before = decls[..place].iter().filter(|decl| is_replicated(decl)).count();
+    let before = decls[..place]
+        .iter()
+        .filter(|decl| is_replicated(decl))
+        .count();
     before as u8
 }

@@ -14,7 +14,7 @@ use re_terms::{
 };
 
 /// A part of a turn, over ids.
-#[derive(Clone, Copy, Debug)]
+#[derive(Clone, Copy)]
 pub enum Part {
     Set(Put),
     Fire(Put),

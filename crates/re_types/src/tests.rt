@@ -18,12 +18,12 @@ use std::test::Fail;
 
 /// What is left of a text of words.
 #[derive(Drop)]
-struct Words<'a> {
-    text: &'a [u8],
+pub struct Words<'a> {
+    pub text: &'a [u8],
 }
 
 impl<'a> Words<'a> {
-    fn next(&mut self) -> &'a [u8] {
+    pub fn next(&mut self) -> &'a [u8] {
         let text = self.text;
         match text.iter().position(|byte| *byte == b' ') {
             Some(at) => {
@@ -67,7 +67,7 @@ fn name_of(alloc: Global, word: &[u8]) -> Result<Text, Fail>
     Ok(Text::from_bytes(alloc, word)?)
 }
 
-fn name(alloc: Global, words: &mut Words<'_>) -> Result<Text, Fail>
+pub fn name(alloc: Global, words: &mut Words<'_>) -> Result<Text, Fail>
     ensures { IfOk result (λ t. is_name_text t ≡ true) }
 {
     name_of(alloc, words.next())
@@ -90,7 +90,7 @@ fn kind(words: &mut Words<'_>) -> Result<Kind, Fail> {
     Ok(kind_of(words.next()).ok_or("a kind was wanted")?)
 }
 
-fn literal_of(alloc: Global, word: &[u8]) -> Result<RawLit, Fail>
+pub fn literal_of(alloc: Global, word: &[u8]) -> Result<RawLit, Fail>
     ensures { IfOk result (λ l. is_literal l ≡ true) }
 {
     if word == b"true".as_slice() {
@@ -277,7 +277,7 @@ fn decl(alloc: Global, words: &mut Words<'_>) -> Result<RawDecl, Fail>
     Ok(RawDecl { name, body })
 }
 
-fn tree(alloc: Global, text: &[u8]) -> Result<Tree, Fail>
+pub fn tree(alloc: Global, text: &[u8]) -> Result<Tree, Fail>
     ensures { IfOk result IsTree }
 {
     let mut words = Words { text };
