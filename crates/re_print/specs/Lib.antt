@@ -1,1 +1,2 @@
+pub mod AnswerTexts
 pub mod Canonical

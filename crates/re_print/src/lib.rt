@@ -1,6 +1,7 @@
-//! Texts of programs and words.
+//! Texts of programs, words and answers.
 #![tactic(auto)]
 
+pub mod answers;
 mod exprs;
 mod lines;
 mod names;
@@ -10,4 +11,5 @@ mod tests;
 mod texts;
 mod words;
 
+pub use answers::print_answer;
 pub use print::{print_program, print_word};

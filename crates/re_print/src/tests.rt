@@ -1,6 +1,6 @@
-//! Printed programs and words, beside their texts as they are written by hand.
-use crate::{print_program, print_word};
-use re_terms::{Body, Decl, Expr, Kind, Op, Program, Seq, Text, Word};
+//! Printed programs, words and answers, beside their texts as they are written by hand.
+use crate::{print_answer, print_program, print_word};
+use re_terms::{Answer, Body, Decl, Expr, Kind, Op, Program, Seq, Text, Word};
 use sqlite_items::Boxed;
 use std::alloc::{AllocError, Global};
 use std::test::Fail;
@@ -193,6 +193,42 @@ fn prints_words(rt: HostRuntime) -> Result<(), Fail> {
     ];
     for (word, text) in cases {
         let printed = print_word(alloc, &p, word)?;
+        assert_eq!(rt; printed.as_slice(), text);
+    }
+    Ok(())
+}
+
+#[test]
+fn prints_answers(rt: HostRuntime) -> Result<(), Fail> {
+    let alloc = rt.alloc();
+    let mut built = Built::new(alloc);
+    built.declare(b"red", Body::Symbol)?;
+    let decls = built.decls;
+    let p = Program { decls };
+    let bytes = Seq::from_vec(vec![in alloc; 0u8, 7, 160, 255]?);
+    let bad_file = Answer::BadFile { file: 1, at: 4096 };
+    let cases = [
+        (Answer::Entered(1), b"ok 1".as_slice()),
+        (
+            Answer::Applied(281474976710655),
+            b"applied 281474976710655".as_slice(),
+        ),
+        (Answer::Settled(0), b"settled 0".as_slice()),
+        (Answer::Value(Word::Int(-3)), b"-3".as_slice()),
+        (Answer::Value(Word::Sym(0)), b"red".as_slice()),
+        (Answer::Value(Word::Fault(2)), b"fault 2".as_slice()),
+        (Answer::Packet(9999), b"packet 9999".as_slice()),
+        (Answer::Hex(bytes), b"0007a0ff".as_slice()),
+        (Answer::Hex(Seq::new(alloc)), b"".as_slice()),
+        (Answer::Down, b"down".as_slice()),
+        (Answer::Up(12), b"up 12".as_slice()),
+        (Answer::No(20), b"no 20".as_slice()),
+        (Answer::StoppedAt(7), b"no 34 at 7".as_slice()),
+        (bad_file, b"no 37 file 1 at 4096".as_slice()),
+    ];
+    for (answer, text) in cases {
+        assert!(rt; !matches!(answer, Answer::Members(_)));
+        let printed = print_answer(alloc, &p, &answer)?;
         assert_eq!(rt; printed.as_slice(), text);
     }
     Ok(())

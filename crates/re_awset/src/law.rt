@@ -1,0 +1,20 @@
+//! The law of sets.
+ghost use Rattle.std.proofs.Common.{ap};
+ghost use Rattle.re_terms.proofs.Sets.{set_join};
+ghost use Rattle.re_terms.specs.CellStates.{Pairing.AddWins, join_pairs, pairs_of};
+ghost use Rattle.re_terms.specs.Listed.{plain};
+
+use re_terms::{Pair, Replicated, Seq};
+
+/// Sets: the merge keeps the pairs that are in both, and those of one that the other's vector doesn't cover.
+pub struct SetLaw;
+
+impl Replicated for SetLaw {
+    type Content = Seq<Pair>;
+
+    ghost made = { λ start cell us. plain (pairs_of AddWins cell us) };
+
+    ghost merged = { λ av bv a b. plain (join_pairs av bv a.items b.items) };
+
+    ghost join_law = { λ start cell log v w causal closed_v closed_w. ap plain (set_join log v w AddWins cell causal closed_v closed_w) };
+}
