@@ -4,3 +4,4 @@ pub mod Lists
 pub mod Marks
 pub mod Reading
 pub mod Sameness
+pub mod WholeLists

@@ -1,6 +1,7 @@
 //! What stands between tokens.
-ghost use Rattle.std.specs.Prelude.{◌≡◌, false};
+ghost use Rattle.std.specs.Prelude.{◌≡◌, ◌↔◌, [], Some, false, IsTrue};
 ghost use Rattle.re_tokens.specs.Scanning.{behind_gap};
+ghost use Rattle.re_tokens.specs.WholeLists.{tokens_of};
 
 use crate::bytes::is_blank;
 
@@ -19,4 +20,11 @@ pub fn skip_gap(text: &[u8]) -> &[u8]
         }
     }
     &text[text.len()..]
+}
+
+/// Whether nothing but blanks and comments stands in a text. It takes no memory.
+pub fn is_blank_text(text: &[u8]) -> bool
+    ensures { IsTrue result ↔ (tokens_of text.now ≡ Some []) }
+{
+    skip_gap(text).is_empty()
 }

@@ -13,4 +13,5 @@ mod tests;
 mod words;
 
 pub use fault::LexFault;
+pub use gap::is_blank_text;
 pub use scanner::tokens;

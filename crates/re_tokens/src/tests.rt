@@ -1,7 +1,7 @@
 //! Tests.
 ghost use Rattle.std.specs.Prelude.{◌<◌, ◌^◌, length};
 
-use crate::{LexFault, tokens};
+use crate::{LexFault, is_blank_text, tokens};
 use re_terms::{Mark, Seq, Token};
 use std::alloc::Global;
 use std::test::Fail;
@@ -84,6 +84,23 @@ fn reads_tokens(rt: HostRuntime) -> Result<(), Fail> {
     assert!(rt;
         matches!(named.as_slice(), [Token { mark: Mark::Name(first), .. }, Token { mark: Mark::Name(second), .. }, _] if first.as_slice() == b"x".as_slice() && second.as_slice() == b"turn".as_slice())
     );
+    Ok(())
+}
+
+#[test]
+fn tells_blank_texts(rt: HostRuntime) -> Result<(), Fail> {
+    let cases: [(&[u8], bool); 7] = [
+        (b"", true),
+        (b" \t\r\n# var x", true),
+        (b"#", true),
+        (b"# x\n \n", true),
+        (b"# x\ny", false),
+        (b" !", false),
+        (b"\0", false),
+    ];
+    for (text, blank) in cases {
+        assert_eq!(rt; is_blank_text(text), blank);
+    }
     Ok(())
 }
 

@@ -1,0 +1,4 @@
+pub mod Commanded
+pub mod Devices
+pub mod NameTokens
+pub mod Separated

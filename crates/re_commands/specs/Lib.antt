@@ -1,0 +1,4 @@
+pub mod Commanding
+pub mod Faults
+pub mod LineGrammar
+pub mod RawLines
