@@ -14,6 +14,7 @@ use Rattle.re_terms.specs.Propagation.{Step, words_after, changes, signal_change
 use Rattle.re_terms.specs.Cells.{is_cell, cell_place}
 use Rattle.re_terms.specs.Worlds.{is_full}
 use Rattle.re_prop.specs.Caching.{put_at, put_all, put_cells, cached_word, signal_words}
+use Rattle.re_prop.proofs.Putting.{put_changes, put_signals}
 use Rattle.re_device.specs.Device.{DeviceState, turn_step, turn_entry, after_turn}
 use Rattle.re_device.specs.Placing.{at_each}
 use Rattle.re_device.proofs.Placed.{length-at_each, put_at-places, changes-declared, changes-placed, signal_changes-declared}
@@ -25,15 +26,6 @@ left_false false b is = refl
 right_false : (a b : Bool) → (a || b) ≡ false → b ≡ false
 right_false true b is = absurd (let e : true ≡ false = is in cc)
 right_false false b is = is
-
-pub put_changes : (p : Program) (s : Step) → length s.words ≡ count_by is_cell p.decls.items → put_cells p.decls.items s.words (changes p s) ≡ words_after p s
-put_changes p s count = ?
-
-pub put_signals : (p : Program) (s : Step) → put_all (signal_words p s.words s.old_view) (signal_changes p s) ≡ signal_words p (words_after p s) s.new_view
-put_signals p s = ?
-
-pub length-words_after : (p : Program) (s : Step) → length (words_after p s) ≡ count_by is_cell p.decls.items
-length-words_after p s = ?
 
 -- what is changed is declared, also as the list of puts and the kept places are read
 pub put_words-declared : (p : Program) (s : Step) (places : List ℕ) (puts : List Put) → places ≡ at_each cell_place p.decls.items → puts ≡ changes p s → All (λ put. put.id < length places) puts
@@ -67,8 +59,8 @@ put_signals-is p s words puts are is = ap (λ l. put_all l puts) are ∙ ap (put
 -- there is room for one entry more
 pub room_left : (count number : ℕ) → is_full count number ≡ false → (count < 4096) × (number + 1 < 2 ^ 48)
 room_left count number free =
-    let a : nat_le 4096 count ≡ false = left_false _ _ free in
-    let b : nat_le (2 ^ 48 - 1) number ≡ false = right_false _ _ free in
+    let a : nat_le 4096 count ≡ false = left_false (nat_le 4096 count) (nat_le (2 ^ 48 - 1) number) free in
+    let b : nat_le (2 ^ 48 - 1) number ≡ false = right_false (nat_le 4096 count) (nat_le (2 ^ 48 - 1) number) free in
     (leb-false 4096 count a, omega (arith, leb-false (2 ^ 48 - 1) number b))
 
 -- what holds of a value holds where there is one

@@ -1,6 +1,6 @@
 -- The programs of the tests are programs.
 use Rattle.std.proofs.Common.{◌≡◌, ◌≢◌, ◌<◌, ◌≤◌, ◌+◌, ℕ, zero, suc, Bool, true, false, Option, None, Some, List, [], ◌∷◌, length, map, get_or, take, refl, sym, ap, subst, ◌∙◌, arith, rules}
-use Rattle.std.specs.Prelude.{slice_get, AllPairs}
+use Rattle.std.specs.Prelude.{slice_get, AllPairs, Result, Ok, Err, IfOk}
 use Rattle.std.specs.List.{count_by, list_all, range_with_len}
 use Rattle.std.specs.Option.{option_map_or}
 use Rattle.std.proofs.lemmas.List.Sums.{AllPass-from_list_all}
@@ -12,7 +12,7 @@ use Rattle.re_terms.specs.declared.program.Decl.{Decl}
 use Rattle.re_terms.specs.declared.program.Program.{Program}
 use Rattle.re_terms.specs.Kinds.{keeps_kinds}
 use Rattle.re_terms.specs.Programs.{IsProgram, is_ranged, is_symbol, names_of}
-use Rattle.re_device.specs.Sample.{program_of, lettered, counting}
+use Rattle.re_device.specs.Sample.{program_of, lettered, counting, summing, dividing}
 
 -- what a test finds of each declaration holds of each
 by_test : (decls : List Decl) (test : ℕ → Decl → Bool) → list_all (λ id. option_map_or (test id) (slice_get decls id) true) (range_with_len 0 (length decls)) ≡ true → (id : ℕ) (d : Decl) → slice_get decls id ≡ Some d → test id d ≡ true
@@ -45,5 +45,42 @@ counting-program =
       names = refl;
       distinct = letters 97 4;
       kinds = by_test decls (λ id d. keeps_kinds (take id decls) d.body) (simp fold-roll-Expr);
-      ranges = by_test decls (λ id d. is_ranged (count_by is_symbol (take id decls)) d.body) (search (rules, fold-roll-Expr));
+      ranges = by_test decls (λ id d. is_ranged (count_by is_symbol (take id decls)) d.body) (simp fold-roll-Expr);
     }
+
+pub summing-program : IsProgram (program_of summing)
+summing-program =
+    let decls : List Decl = lettered 97 summing in
+    record {
+      plain = refl;
+      few = omega arith;
+      cells = omega arith;
+      replicated = omega arith;
+      device = omega arith;
+      devices = omega arith;
+      names = refl;
+      distinct = letters 97 7;
+      kinds = by_test decls (λ id d. keeps_kinds (take id decls) d.body) (simp fold-roll-Expr);
+      ranges = by_test decls (λ id d. is_ranged (count_by is_symbol (take id decls)) d.body) (simp fold-roll-Expr);
+    }
+
+pub dividing-program : IsProgram (program_of dividing)
+dividing-program =
+    let decls : List Decl = lettered 97 dividing in
+    record {
+      plain = refl;
+      few = omega arith;
+      cells = omega arith;
+      replicated = omega arith;
+      device = omega arith;
+      devices = omega arith;
+      names = refl;
+      distinct = letters 97 4;
+      kinds = by_test decls (λ id d. keeps_kinds (take id decls) d.body) (simp fold-roll-Expr);
+      ranges = by_test decls (λ id d. is_ranged (count_by is_symbol (take id decls)) d.body) (simp fold-roll-Expr);
+    }
+
+-- a copy of a program is one
+pub of_sample : {E : Type 0} (r : Result Program E) (p : Program) → IsProgram p → IfOk r (λ found. found ≡ p) → IfOk r (λ found. IsProgram found)
+of_sample (Ok found) p program is = subst IsProgram (sym is) program
+of_sample (Err e) p program is = is

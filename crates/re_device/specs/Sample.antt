@@ -5,9 +5,10 @@ use Rattle.re_terms.specs.Listed.{plain}
 use Rattle.re_terms.specs.declared.word.Word.{Word}
 use Rattle.re_terms.specs.declared.word.Word.TheVariants as word
 use Rattle.re_terms.specs.declared.word.Kind.TheVariants as kind
+use Rattle.re_terms.specs.declared.expr.Op.{Op}
 use Rattle.re_terms.specs.declared.expr.Op.TheVariants as op
 use Rattle.re_terms.specs.declared.expr.Expr.{Expr, roll-Expr}
-use Rattle.re_terms.specs.declared.expr.Expr.TheOpen.{Lit, Own, Bin}
+use Rattle.re_terms.specs.declared.expr.Expr.TheOpen.{Lit, Name, Arg, Own, Bin, Recover}
 use Rattle.re_terms.specs.declared.program.Body.{Body}
 use Rattle.re_terms.specs.declared.program.Body.TheVariants as body
 use Rattle.re_terms.specs.declared.program.Decl.{Decl}
@@ -25,8 +26,11 @@ lettered letter (b ∷ bodies) = named letter b ∷ lettered (letter + 1) bodies
 abbrev pub program_of : List Body → Program
 program_of bodies = record { decls = plain (lettered 97 bodies) }
 
-abbrev pub one : Expr
-one = roll-Expr (Lit (word.Int (pos 1)))
+abbrev pub number : ℕ → Expr
+number n = roll-Expr (Lit (word.Int (pos n)))
+
+abbrev pub binary : Op → Expr → Expr → Expr
+binary o left right = roll-Expr (Bin o left right)
 
 -- a fold of ints that begins at 0
 abbrev pub fold_on : ℕ → Expr → Body
@@ -36,6 +40,21 @@ fold_on source e = body.Fold kind.Int (word.Int (pos 0)) source e 1
 abbrev pub var : Body
 var = body.Var kind.Int (word.Int (pos 1)) 1
 
+abbrev pub signal : Expr → Body
+signal e = body.Signal kind.Int e
+
 -- a fold counts the changes of a var
 abbrev pub counting : List Body
-counting = body.Device ∷ var ∷ body.Changed 1 ∷ fold_on 2 (roll-Expr (Bin op.Add (roll-Expr Own) one)) ∷ []
+counting = body.Device ∷ var ∷ body.Changed 1 ∷ fold_on 2 (binary op.Add (roll-Expr Own) (number 1)) ∷ []
+
+-- a fold counts the changes of the sum of two signals over one var
+abbrev pub summing : List Body
+summing = body.Device ∷ var ∷ signal (binary op.Add (roll-Expr (Name 1)) (number 1)) ∷ signal (binary op.Mul (roll-Expr (Name 1)) (number 2)) ∷ signal (binary op.Add (roll-Expr (Name 2)) (roll-Expr (Name 3))) ∷ body.Changed 4 ∷ fold_on 5 (binary op.Add (roll-Expr Own) (number 1)) ∷ []
+
+-- the fold's word and 10 by the event's value
+abbrev pub quotient : Expr
+quotient = binary op.Add (roll-Expr Own) (binary op.Div (number 10) (roll-Expr Arg))
+
+-- two folds divide by an event's value, and one of them recovers
+abbrev pub dividing : List Body
+dividing = body.Device ∷ body.Event kind.Int ∷ fold_on 1 quotient ∷ fold_on 1 (roll-Expr (Recover quotient (number 100))) ∷ []

@@ -166,7 +166,11 @@ impl Device {
     pub(crate) fn contains(&self, id: u16, word: Word) -> bool
         ensures { result ≡ (told_of self.now).has id word }
     {
-        has_at(self.state.rep.cells.as_slice(), self.places.replicated(id), word)
+        has_at(
+            self.state.rep.cells.as_slice(),
+            self.places.replicated(id),
+            word,
+        )
     }
 
     /// The number of its last entry, and 0 before any.

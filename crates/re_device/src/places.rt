@@ -28,7 +28,10 @@ fn has_word(body: &Body) -> bool
 fn is_replicated(body: &Body) -> bool
     ensures { result ≡ is_replicated_body body.now }
 {
-    matches!(body, Body::Counter | Body::Set { .. } | Body::Register { .. })
+    matches!(
+        body,
+        Body::Counter | Body::Set { .. } | Body::Register { .. }
+    )
 }
 
 impl Places {

@@ -6,10 +6,11 @@ use Rattle.re_terms.specs.Listed.{Listed, plain}
 use Rattle.re_terms.specs.declared.word.Word.{Word}
 use Rattle.re_terms.specs.Views.{view_of}
 use Rattle.re_terms.specs.Worlds.{is_full}
+use Rattle.re_prop.proofs.Cells.{length-words_after}
 use Rattle.re_device.specs.Device.{DeviceState, turn_entry, after_turn}
 use Rattle.re_prop.specs.Caching.{signal_words}
 use Rattle.re_terms.specs.Propagation.{Step, step_in, words_after, changes, signal_changes}
-use Rattle.re_device.proofs.Entering.{put_words-declared, put_words-placed, put_words-is, put_signals-declared, put_signals-is, length-words_after, room_left, one_more, entered}
+use Rattle.re_device.proofs.Entering.{put_words-declared, put_words-placed, put_words-is, put_signals-declared, put_signals-is, room_left, one_more, entered}
 use Rattle.re_device.proofs.device.Device.turn.Goals as goal
 
 listed : {xs ys : List Word} {n : ℕ} → xs ≡ ys → n ≡ 0 → record { items = xs; spare = n } ≡ plain ys
