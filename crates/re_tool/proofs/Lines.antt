@@ -160,12 +160,12 @@ meant_no p (Restart device) h = made_no _ _ (device_no p.decls.items _) h
 
 line_no : (p : Program) (o : Option Line) → line_meant p o ≡ Err fault.Memory → ⊥
 line_no p None h = cc
-line_no p (Some line) h = made_no Some (meant p line) (meant_no p line) h
+line_no p (Some line) h = meant_no p line h
 
 marks_no : (p : Program) (o : Option (List Mark)) → marks_meant p o ≡ Err fault.Memory → ⊥
 marks_no p None h = cc
 marks_no p (Some []) h = cc
-marks_no p (Some (m ∷ marks)) h = line_no p (read_line (m ∷ marks)) h
+marks_no p (Some (m ∷ marks)) h = made_no Some (line_meant p (read_line (m ∷ marks))) (line_no p (read_line (m ∷ marks))) h
 
 -- no line means that memory ran out
 pub no_memory : (p : Program) (line : List ℕ) → commanded p line ≡ Err fault.Memory → ⊥

@@ -1,5 +1,5 @@
 -- The words of vars, by the entries that set them.
-use Rattle.std.proofs.Common.{ℕ, zero, suc, ◌≡◌, ◌<◌, ◌+◌, cond, Bool, true, false, List, [], ◌∷◌, ◌++◌, length, take, Option, Some, None, unwrap_or, refl, sym, ap, ◌∙◌, arith}
+use Rattle.std.proofs.Common.{ℕ, zero, suc, ◌≡◌, ◌<◌, ◌+◌, cond, Bool, true, false, List, [], ◌∷◌, ◌++◌, length, take, Option, Some, None, unwrap_or, refl, sym, ap, ◌∙◌, zero-add, arith}
 use Rattle.std.specs.Prelude.{slice_get, slice_index_or, count_by}
 use Rattle.std.specs.List.{filter_map}
 use Rattle.std.proofs.lemmas.List.Sums.{sum_by-cons}
@@ -56,10 +56,6 @@ module _ (p : Program) (id : ℕ) (d : Decl) (kind : Kind) (start : Word) (regio
 
 -- ---- start words
 
-starts_after : (o : Option Word) (words : List Word) → List Word
-starts_after None words = words
-starts_after (Some w) words = w ∷ words
-
 start_is : (b : Body) → (is_cell_body b ≡ true) → (w : Word) × (start_word b ≡ Some w)
 start_is body.Device h = absurd (cc)
 start_is body.Symbol h = absurd (cc)
@@ -93,19 +89,22 @@ no_start (body.Register kind start) h = refl
 place-more : (d : Decl) (decls : List Decl) (id : ℕ) → cell_place (d ∷ decls) (suc id) ≡ cond (is_cell d) 1 0 + cell_place decls id
 place-more d decls id = sum_by-cons (λ x. cond (is_cell x) 1 0) d (take id decls)
 
+one_plus : (n : ℕ) → 1 + n ≡ suc n
+one_plus n = omega arith
+
+start_past : (x : Decl) (decls : List Decl) (id : ℕ) (w : Word) (b : Bool) → is_cell x ≡ b → slice_index_or (start_words decls) (cell_place decls id) no_word ≡ w → slice_index_or (start_words (x ∷ decls)) (cell_place (x ∷ decls) (suc id)) no_word ≡ w
+start_past x decls id w true cell h =
+    let s = start_is x.body cell in
+    rw (s.1, place-more x decls id, cell, one_plus (cell_place decls id)) h
+start_past x decls id w false cell h = rw (no_start x.body cell, place-more x decls id, cell, zero-add (cell_place decls id)) h
+
 start_at : (decls : List Decl) (id : ℕ) (d : Decl) (w : Word) → slice_get decls id ≡ Some d → start_word d.body ≡ Some w → slice_index_or (start_words decls) (cell_place decls id) no_word ≡ w
 start_at [] id d w at is = absurd (cc)
 start_at (x ∷ decls) zero d w at is =
     let same : x ≡ d = cc in
     let e : start_word x.body ≡ Some w = ap (λ (y : Decl). start_word y.body) same ∙ is in
     rw e refl
-start_at (x ∷ decls) (suc id) d w at is = by (is_cell x) refl
-  where
-    by : (b : Bool) → is_cell x ≡ b → slice_index_or (start_words (x ∷ decls)) (cell_place (x ∷ decls) (suc id)) no_word ≡ w
-    by true cell =
-        let s = start_is x.body cell in
-        rw (s.1, place-more x decls id, cell) (start_at decls id d w at is)
-    by false cell = rw (no_start x.body cell, place-more x decls id, cell) (start_at decls id d w at is)
+start_at (x ∷ decls) (suc id) d w at is = start_past x decls id w (is_cell x) refl (start_at decls id d w at is)
 
 -- a var begins with its start word
 pub start_says : (p : Program) (id : ℕ) (d : Decl) (kind : Kind) (start : Word) (region : ℕ) → slice_get p.decls.items id ≡ Some d → d.body ≡ body.Var kind start region → signal_word p (plain_start p).words (start_view p) id ≡ start
