@@ -1,29 +1,26 @@
 -- The device after a command, as the world's.
-use Rattle.std.proofs.Common.{ℕ, ◌≡◌, ◌+◌, cond, Bool, true, false, List, [], ◌∷◌, ◌++◌, length, length-append, Option, Some, None, refl, sym, ap, subst, ◌∙◌, arith, add-zero}
-use Rattle.std.specs.Prelude.{slice_get, if◌then◌else◌, count_by}
-use Rattle.std.specs.List.{list_all, filter_map}
+use Rattle.std.proofs.Common.{ℕ, ◌≡◌, ◌+◌, cond, Bool, true, false, List, [], ◌∷◌, ◌++◌, length, length-append, None, refl, sym, ap, ◌∙◌, arith}
+use Rattle.std.specs.Prelude.{slice_get, count_by}
+use Rattle.std.specs.List.{list_all}
 use Rattle.std.specs.Option.{option_map_or}
 use Rattle.std.proofs.lemmas.Bool.{and_parts, eqb-true}
 use Rattle.std.proofs.lemmas.List.Sums.{sum_by-cons}
-use Rattle.re_terms.specs.declared.command.Command.{Command}
 use Rattle.re_terms.specs.declared.command.Command.TheVariants as command
 use Rattle.re_terms.specs.declared.entry.Admitted.{Admitted}
-use Rattle.re_terms.specs.declared.entry.Put.{Put}
 use Rattle.re_terms.specs.declared.program.Body.{Body}
 use Rattle.re_terms.specs.declared.program.Body.TheVariants as body
 use Rattle.re_terms.specs.declared.program.Decl.{Decl}
 use Rattle.re_terms.specs.declared.program.Program.{Program}
 use Rattle.re_terms.specs.declared.replicated.RepOp.{RepOp}
-use Rattle.re_terms.specs.declared.replicated.RKind.{RKind}
 use Rattle.re_terms.specs.declared.word.Word.{Word}
 use Rattle.re_terms.specs.Admission.{IsAdmitted, is_operation_of, is_act_of, symbol_count}
-use Rattle.re_terms.specs.Programs.{is_device, is_replicated, is_replicated_body}
+use Rattle.re_terms.specs.Programs.{is_replicated, is_replicated_body}
 use Rattle.re_terms.specs.Propagation.{Step, words_after}
-use Rattle.re_terms.specs.Runs.{PlainState, PlainEntry, Turn, plain_start, entry_after, run_entries, start_view, step_of}
-use Rattle.re_terms.specs.Shapes.{replicated_kind, replicated_kinds, shape_of, start_replicated}
+use Rattle.re_terms.specs.Runs.{PlainState, PlainEntry, entry_after, run_entries, step_of}
+use Rattle.re_terms.specs.Shapes.{replicated_kind, replicated_kinds}
 use Rattle.re_terms.specs.SignalWords.{signal_word}
 use Rattle.re_terms.specs.Views.{view_of}
-use Rattle.re_terms.specs.Worlds.{World, Outcome, Fine, Memory, PlainAnswer, Entered, Value, Refused, start_world, world_state, last_number, is_full, turn_entry, reply, world_after}
+use Rattle.re_terms.specs.Worlds.{World, Fine, Memory, Entered, Value, start_world, world_state, last_number, is_full, turn_entry}
 use Rattle.re_device.specs.Device.{DeviceState, started, turn_step, after_turn}
 use Rattle.re_tool.specs.Built.{is_built}
 use Rattle.re_tool.specs.Device.{Represents, StepsTo}

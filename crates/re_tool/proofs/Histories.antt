@@ -1,12 +1,11 @@
 -- The entries that lines make.
-use Rattle.std.proofs.Common.{ℕ, ◌≡◌, Bool, true, false, List, [], ◌∷◌, ◌++◌, length, Option, Some, None, Ok, Err, refl, sym, ap, ◌∙◌, append_assoc}
+use Rattle.std.proofs.Common.{ℕ, ◌≡◌, Bool, true, false, List, [], ◌∷◌, ◌++◌, length, Some, None, Ok, Err, refl, sym, ap, ◌∙◌, append_assoc}
 use Rattle.std.proofs.lemmas.List.{append-nil}
 use Rattle.re_terms.specs.declared.command.Command.{Command}
 use Rattle.re_terms.specs.declared.command.Command.TheVariants as command
 use Rattle.re_terms.specs.declared.entry.Admitted.{Admitted}
 use Rattle.re_terms.specs.declared.program.Program.{Program}
-use Rattle.re_terms.specs.Runs.{PlainEntry}
-use Rattle.re_terms.specs.Worlds.{World, Outcome, Fine, Memory, last_number, is_full, turn_entry, reply, world_after, start_world}
+use Rattle.re_terms.specs.Worlds.{World, Outcome, Fine, Memory, last_number, is_full, reply, world_after}
 use Rattle.re_commands.specs.Commanding.{commanded}
 use Rattle.re_tool.specs.Answers.{Reading, first, others, line_answer, line_after, lines_after}
 use Rattle.re_tool.specs.Histories.{entered, taken}

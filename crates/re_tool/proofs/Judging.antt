@@ -22,7 +22,7 @@ use Rattle.re_tool.specs.declared.words.Job.{Job}
 use Rattle.re_tool.specs.declared.words.Job.TheVariants as job
 use Rattle.re_tool.specs.Built.{is_built}
 use Rattle.re_tool.specs.Faults.{lex_fault, syntax_fault, type_fault}
-use Rattle.re_tool.specs.Verdict.{Verdict, Unknown, Rejected, Accepted, HasTokens, HasTree, Judges, no_token, unexpected, too_deep, whole, HasVerdict, Decides, verdict_of}
+use Rattle.re_tool.specs.Verdict.{Rejected, Accepted, HasTokens, HasTree, Judges, no_token, unexpected, too_deep, whole, HasVerdict, Decides, verdict_of}
 use Rattle.re_tool.proofs.Settling.{decided}
 
 same_refusal : (a b : Refusal) → program.Refused a ≡ program.Refused b → a ≡ b

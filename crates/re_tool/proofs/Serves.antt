@@ -1,13 +1,11 @@
 -- What a line in hand is, as far as it is kept.
-use Rattle.std.proofs.Common.{arith, ◌≡◌, ◌≤◌, ◌+◌, ◌∷◌, [], ℕ, List, length, take, ◌∙◌, ap, subst, length-append}
-use Rattle.re_outside.specs.Outside.{Seen, none}
+use Rattle.std.proofs.Common.{◌≡◌, ℕ, List, take, ◌∙◌, ap, subst}
+use Rattle.re_outside.specs.Outside.{Seen}
 use Rattle.re_terms.specs.declared.program.Program.{Program}
-use Rattle.re_tool.specs.declared.reader.Reader.{Reader}
 use Rattle.re_tool.specs.Clipped.{Clipped, clipped}
 use Rattle.re_commands.specs.Commanding.{commanded}
 use Rattle.re_device.specs.Device.{DeviceState}
 use Rattle.re_tool.specs.Lines.{without_return}
-use Rattle.re_tool.specs.Reads.{Reads}
 use Rattle.re_tool.specs.Serving.{Turns, TurnBreaks}
 use Rattle.re_tool.proofs.Programs.{line-kept, line-kept_last}
 use Rattle.re_tool.proofs.Sessions.{turns_as, breaks_as}

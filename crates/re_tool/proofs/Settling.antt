@@ -1,6 +1,5 @@
 -- A program part has one verdict.
-use Rattle.std.proofs.Common.{arith, ◌≡◌, ◌≤◌, ◌<◌, ℕ, List, length, sym, ◌∙◌, ap, subst, true, false, inl, inr}
-use Rattle.re_terms.specs.Tokens.{IsTokenList}
+use Rattle.std.proofs.Common.{arith, ◌≡◌, ℕ, List, sym, ◌∙◌, ap, subst, true, false, inl, inr}
 use Rattle.re_terms.specs.declared.program.Program.{Program}
 use Rattle.re_terms.specs.declared.token.Token.{Token}
 use Rattle.re_terms.specs.declared.raw.RawDecl.{RawDecl}
@@ -9,8 +8,7 @@ use Rattle.re_tokens.proofs.Lists.{is_token_list}
 use Rattle.re_tokens.proofs.Sameness.{one_list, one_place, never_both}
 use Rattle.re_syntax.specs.Grammar.{marks_of, Derives}
 use Rattle.re_syntax.specs.OneAnswer.{IsRefused}
-use Rattle.re_syntax.specs.OneAnswer as syntax
-use Rattle.re_syntax.specs.Places.{open_limit, IsUnexpected, IsTooDeep}
+use Rattle.re_syntax.specs.Places.{open_limit}
 use Rattle.re_syntax.specs.declared.fault.SyntaxFault.{SyntaxFault}
 use Rattle.re_syntax.specs.declared.fault.SyntaxFault.TheVariants as fault
 use Rattle.re_syntax.proofs.OneAnswer.{no_other_tree, no_other_refusal, not_both}

@@ -1,7 +1,6 @@
 -- The words of vars, by the entries that set them.
-use Rattle.std.proofs.Common.{ℕ, zero, suc, ◌≡◌, ◌<◌, ◌+◌, cond, Bool, true, false, List, [], ◌∷◌, ◌++◌, length, take, Option, Some, None, unwrap_or, refl, sym, ap, ◌∙◌, zero-add, arith}
-use Rattle.std.specs.Prelude.{slice_get, slice_index_or, count_by}
-use Rattle.std.specs.List.{filter_map}
+use Rattle.std.proofs.Common.{ℕ, zero, suc, ◌≡◌, ◌+◌, cond, Bool, true, false, List, [], ◌∷◌, length, take, Some, None, unwrap_or, refl, sym, ap, ◌∙◌, zero-add, arith}
+use Rattle.std.specs.Prelude.{slice_get, slice_index_or}
 use Rattle.std.proofs.lemmas.List.Sums.{sum_by-cons}
 use Rattle.std.proofs.lemmas.Option.{slice_get_within}
 use Rattle.re_terms.specs.declared.entry.Put.{Put}
@@ -13,12 +12,11 @@ use Rattle.re_terms.specs.declared.word.Kind.{Kind}
 use Rattle.re_terms.specs.declared.word.Word.{Word}
 use Rattle.re_terms.specs.Cells.{is_cell, is_cell_body, cell_place}
 use Rattle.re_terms.specs.Dependencies.{below}
-use Rattle.re_terms.specs.Propagation.{Step, effect, place_effect, no_effect, put_word, words_after}
+use Rattle.re_terms.specs.Propagation.{Step, effect, place_effect, no_effect, put_word}
 use Rattle.re_terms.specs.Runs.{PlainState, PlainEntry, Turn, plain_start, step_of, entry_after, run_entries, start_view}
 use Rattle.re_terms.specs.Shapes.{start_word, start_words}
 use Rattle.re_terms.specs.SignalWords.{no_word, signal_word, place_word}
 use Rattle.re_terms.specs.Views.{View}
-use Rattle.re_terms.specs.Worlds.{World, start_world, world_state}
 use Rattle.re_graph.proofs.Own.{below-own}
 use Rattle.re_prop.proofs.Outcomes.{effect_word}
 use Rattle.re_tool.specs.Histories.{last_set}

@@ -1,6 +1,6 @@
 -- The entries that lines make, and the words of vars by these entries.
 -- Read against: on `device a; var x: int = 1;` the lines `turn a x = 5`, `turn a`, `turn a x = 7` make two entries, and x was set last to 7.
-use Rattle.std.specs.Prelude.{ℕ, List, [], ◌∷◌, ◌++◌, Option, Some, None, Ok, unwrap_or}
+use Rattle.std.specs.Prelude.{ℕ, List, [], ◌∷◌, ◌++◌, Option, Some, Ok, unwrap_or}
 use Rattle.re_terms.specs.declared.command.Command.TheVariants as command
 use Rattle.re_terms.specs.declared.program.Program.{Program}
 use Rattle.re_terms.specs.declared.word.Word.{Word}

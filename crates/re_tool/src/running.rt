@@ -77,11 +77,7 @@ fn turn_fault_code(fault: DeviceFault) -> u8
 }
 
 /// Does a command, and gives its answer. A refused command changes nothing.
-fn answer_command<L: Ledger>(
-    device: &mut Device,
-    steps: &mut Steps<L>,
-    command: Command,
-) -> Answer
+fn answer_command<L: Ledger>(device: &mut Device, steps: &mut Steps<L>, command: Command) -> Answer
     requires built { is_built device.old.program ≡ true }
     requires command { IsCommandOf device.old.program command }
     ensures steps { StepsTo device.old device.new command result }

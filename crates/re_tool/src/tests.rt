@@ -286,10 +286,7 @@ fn unexpected_tokens_are_refused(rt: HostRuntime) -> Result<(), TestFail> {
             b"unexpected token at 32",
         ),
         (b"signal s = fault(1000);", b"unexpected token at 17"),
-        (
-            b"signal s = - 9223372036854775809;",
-            b"no token at 13",
-        ),
+        (b"signal s = - 9223372036854775809;", b"no token at 13"),
         (b"signal s = 1 == 2 == 3;", b"unexpected token at 18"),
         (b"event e = map(", b"unexpected token at 14"),
         (b"event e: ", b"unexpected token at 9"),
@@ -356,7 +353,11 @@ fn sum_of_ones(alloc: Global, terms: usize) -> Result<Vec<u8>, AllocError> {
 
 /// What stands before and behind 64 times `+1` in programs whose expressions are too deep, or don't end.
 const DEEP: [(&[u8], &[u8], &[u8]); 3] = [
-    (b"device a;\nsignal s = 1", b"+;", b"unexpected token at 151"),
+    (
+        b"device a;\nsignal s = 1",
+        b"+;",
+        b"unexpected token at 151",
+    ),
     (
         b"device a; event e: int; fold n: int = 0 on e do self",
         b";",

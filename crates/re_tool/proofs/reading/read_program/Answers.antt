@@ -1,6 +1,5 @@
 use Rattle.std.proofs.Common.{◌∙◌, sym, ap, Err}
 use Rattle.std.proofs.lemmas.Result.{err_from_is_err_and}
-
 use Rattle.re_tool.proofs.Judging.{rejected_for, accepted_checked, accepted_run, not_built, handed}
 use Rattle.re_tool.proofs.reading.read_program.Goals as goal
 

@@ -10,4 +10,3 @@ turn-requires-clause-operations g c =
 
 pub returns-in-Ok-clause-steps : goal.returns-in-Ok-clause-steps
 returns-in-Ok-clause-steps g c = rw c.in-Turn.is (turn_taken c.args.device.now c.turn.new.self c.in-Turn.device c.in-Ok.done.number c.in-Turn.turn c.in-Ok.ensures.state c.in-Ok.ensures.number c.in-Ok.ensures.room)
-

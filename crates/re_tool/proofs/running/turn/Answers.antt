@@ -1,6 +1,5 @@
-use Rattle.std.proofs.Common.{[], Some, sym, ap, subst, ◌∙◌}
+use Rattle.std.proofs.Common.{[], Some, sym, subst, ◌∙◌}
 use Rattle.re_outside.specs.Outside.{Does, none}
-use Rattle.re_outside.specs.Listed.{Listed}
 use Rattle.re_tool.specs.Serving.{AnswersLine, said_of}
 use Rattle.re_tool.proofs.Orders.{act_said}
 use Rattle.re_tool.proofs.running.turn.Goals as goal
