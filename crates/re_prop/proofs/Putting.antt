@@ -31,7 +31,6 @@ module _ (place : ℕ → ℕ) (words : List Word) (keep changed : ℕ → Bool)
     (at : (id : ℕ) → id < n_all → keep id ≡ true → place id ≡ length (filter keep (range_with_len 0 id)))
     (moved : (id : ℕ) → id < n_all → changed id ≡ true → put id ≡ new id)
     (still : (id : ℕ) → id < n_all → keep id ≡ true → changed id ≡ false → slice_index_or words (place id) no_word ≡ new id) where
-
   abbrev puts_below : ℕ → List Put
   puts_below n = map (λ id. record { id = id; word = put id }) (filter changed (range_with_len 0 n))
 
