@@ -99,6 +99,7 @@ empty-fits p sample =
         bounded = All-replicate (λ n. n < 2 ^ 48) 16 0 (omega arith);
         none = λ device _. zero_by device (cases_lt device 16);
       };
+      plain = refl;
       count = ap length none ∙ sym (ap length sample.cells);
       cells = λ place k c at there. absurd (gone place k (sym (ap (λ xs. slice_get xs place) sample.cells) ∙ at));
       pairs = omega (arith, ap (sum_by pair_count) none);
