@@ -1,5 +1,5 @@
 -- The programs of the tests are programs, and their start states fit them.
-use Rattle.std.proofs.Common.{◌≡◌, ◌≢◌, ◌<◌, ◌≤◌, ◌+◌, ◌^◌, ◌⊎◌, inl, inr, ℕ, Bool, true, Option, None, Some, List, [], ◌∷◌, length, map, get_or, take, refl, sym, ap, subst, ◌∙◌, arith}
+use Rattle.std.proofs.Common.{◌≡◌, ◌≢◌, ◌<◌, ◌≤◌, ◌+◌, ◌^◌, ◌⊎◌, inl, inr, ℕ, Bool, true, None, Some, List, [], ◌∷◌, length, map, get_or, take, refl, sym, ap, subst, ◌∙◌, arith}
 use Rattle.std.specs.Prelude.{count_by, slice_get, slice_index, AllPairs, Result, Ok, Err, IfOk}
 use Rattle.std.specs.List.{list_all, range_with_len, sum_by}
 use Rattle.std.specs.Option.{option_map_or}
@@ -10,16 +10,12 @@ use Rattle.std.proofs.lemmas.List.Sums.{AllPass-from_list_all}
 use Rattle.std.proofs.lemmas.List.FromFn.{get_or-range_with_len, length-range_with_len, length-map-range_with_len, get_or-map-range_with_len}
 use Rattle.std.proofs.lemmas.Option.{slice_get_within}
 use Rattle.re_terms.specs.declared.expr.Expr.TheFolds.{fold-roll-Expr}
-use Rattle.re_terms.specs.declared.program.Body.{Body}
 use Rattle.re_terms.specs.declared.program.Decl.{Decl}
 use Rattle.re_terms.specs.declared.program.Program.{Program}
-use Rattle.re_terms.specs.declared.replicated.RCell.{RCell}
 use Rattle.re_terms.specs.declared.replicated.RKind.{RKind}
-use Rattle.re_terms.specs.declared.replicated.RState.{RState}
 use Rattle.re_terms.specs.Kinds.{keeps_kinds}
-use Rattle.re_terms.specs.Programs.{IsProgram, is_ranged, is_symbol, names_of}
-use Rattle.re_terms.specs.Shapes.{AreOfDevices, FitsKind, FitsShape, pair_count, replicated_kinds, shape_of, start_cell, start_replicated, zeros}
-use Rattle.re_terms.specs.Listed.{plain}
+use Rattle.re_terms.specs.Programs.{is_ranged, is_symbol}
+use Rattle.re_terms.specs.Shapes.{FitsShape, pair_count, replicated_kinds, shape_of, start_cell, start_replicated, zeros}
 use Rattle.re_prop.specs.Sample.{IsSample, program_of, lettered, diamond, faulty}
 
 -- what a test finds of each declaration holds of each

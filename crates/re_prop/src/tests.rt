@@ -130,12 +130,7 @@ fn sample(alloc: Global, which: u8) -> Result<Program, AllocError>
 }
 
 /// A turn that sets a var or fires a source event of ints, where the id names one.
-fn turn_of(
-    alloc: Global,
-    p: &Program,
-    id: u16,
-    number: i64,
-) -> Result<Option<Entry>, AllocError>
+fn turn_of(alloc: Global, p: &Program, id: u16, number: i64) -> Result<Option<Entry>, AllocError>
     ensures { IfOk result (λ found. IfSome found (λ entry. IsEntryOf p.now entry)) }
 {
     let Some(decl) = p.decls.get(id as usize) else {
@@ -145,7 +140,10 @@ fn turn_of(
     let puts = Seq::from_vec(vec![in alloc; Put { id, word }]?);
     let ops = Seq::new(alloc);
     let turn = match decl.body {
-        Body::Var { kind: Kind::Int, .. } => Turn {
+        Body::Var {
+            kind: Kind::Int,
+            ..
+        } => Turn {
             sets: puts,
             fires: Seq::new(alloc),
             ops,
@@ -172,7 +170,14 @@ fn started(alloc: Global, p: &Program) -> Result<State, AllocError>
 
 /// A program, the id that a turn sets or fires, its word, and what is then to change, in vars and folds and in signals, and
 /// to be read.
-type Case<'a> = (u8, u16, i64, &'a [(u16, Word)], &'a [(u16, Word)], &'a [(u16, Word)]);
+type Case<'a> = (
+    u8,
+    u16,
+    i64,
+    &'a [(u16, Word)],
+    &'a [(u16, Word)],
+    &'a [(u16, Word)],
+);
 
 fn are(puts: &Seq<Put>, words: &[(u16, Word)]) -> bool {
     puts.len() == words.len()
@@ -230,7 +235,14 @@ fn turns_at_the_start(rt: HostRuntime) -> Result<(), Fail> {
     let alloc = rt.alloc();
     let (one, two) = (Word::Int(1), Word::Int(2));
     let (none, fault) = (Word::Int(0), Word::Fault(2));
-    let read: &[(u16, Word)] = &[(1, one), (2, two), (3, two), (4, Word::Int(4)), (6, none), (8, none)];
+    let read: &[(u16, Word)] = &[
+        (1, one),
+        (2, two),
+        (3, two),
+        (4, Word::Int(4)),
+        (6, none),
+        (8, none),
+    ];
     let folds: &[(u16, Word)] = &[(2, none), (4, none), (7, none)];
     let cases: [Case; 5] = [
         (
@@ -242,8 +254,22 @@ fn turns_at_the_start(rt: HostRuntime) -> Result<(), Fail> {
             read,
         ),
         (0, 1, 1, &[], &[], read),
-        (1, 1, 2, &[(2, Word::Int(5)), (4, two), (7, Word::Int(5))], &[], folds),
-        (1, 1, 0, &[(2, fault), (4, Word::Int(100)), (7, fault)], &[], folds),
+        (
+            1,
+            1,
+            2,
+            &[(2, Word::Int(5)), (4, two), (7, Word::Int(5))],
+            &[],
+            folds,
+        ),
+        (
+            1,
+            1,
+            0,
+            &[(2, fault), (4, Word::Int(100)), (7, fault)],
+            &[],
+            folds,
+        ),
         (1, 1, 10, &[(2, one), (7, one)], &[], folds),
     ];
     let cached = [Word::Int(16), Word::Int(4), none, none, none];
