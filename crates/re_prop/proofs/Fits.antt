@@ -25,13 +25,13 @@ set_sorted shape counts (replicated.Register k start) pairs fits = absurd fits
 -- its sets are kept in order, and none has more than 1,024 pairs
 pub sets_of_fit : (shape : Shape) (r : RState) (cells : List RCell) → cells ≡ r.cells.items → FitsShape shape r → HasSets cells
 sets_of_fit shape r cells same fits = subst HasSets (sym same) (record {
-      ordered = λ place pairs at.
-          let within : place < length shape.cells.items = omega (arith, slice_get_within r.cells.items place (cell.Set pairs) at, fits.count) in
-          let k : RKind = get_or shape.cells.items place replicated.Counter in
-          set_sorted shape r.vector.counts k pairs (fits.cells place k (cell.Set pairs) (slice_get-get_or shape.cells.items place replicated.Counter within) at);
-      few = λ place pairs at.
-          let within : place < length r.cells.items = slice_get_within r.cells.items place (cell.Set pairs) at in
-          let each : pair_count (get_or r.cells.items place (cell.Set pairs)) ≤ sum_by pair_count r.cells.items = get_or-le-sum_by pair_count r.cells.items place (cell.Set pairs) within in
-          let is : length pairs.items ≡ pair_count (get_or r.cells.items place (cell.Set pairs)) = ap pair_count (sym (get_or_from_slice_get r.cells.items place (cell.Set pairs) (cell.Set pairs) at)) in
-          omega (arith, each, is, fits.pairs);
-    })
+  ordered = λ place pairs at.
+      let within : place < length shape.cells.items = omega (arith, slice_get_within r.cells.items place (cell.Set pairs) at, fits.count) in
+      let k : RKind = get_or shape.cells.items place replicated.Counter in
+      set_sorted shape r.vector.counts k pairs (fits.cells place k (cell.Set pairs) (slice_get-get_or shape.cells.items place replicated.Counter within) at);
+  few = λ place pairs at.
+      let within : place < length r.cells.items = slice_get_within r.cells.items place (cell.Set pairs) at in
+      let each : pair_count (get_or r.cells.items place (cell.Set pairs)) ≤ sum_by pair_count r.cells.items = get_or-le-sum_by pair_count r.cells.items place (cell.Set pairs) within in
+      let is : length pairs.items ≡ pair_count (get_or r.cells.items place (cell.Set pairs)) = ap pair_count (sym (get_or_from_slice_get r.cells.items place (cell.Set pairs) (cell.Set pairs) at)) in
+      omega (arith, each, is, fits.pairs);
+})

@@ -8,4 +8,5 @@ pub mod Givens
 pub mod Consequences
 pub mod Outcomes
 pub mod Putting
+pub mod Samples
 pub mod Uses

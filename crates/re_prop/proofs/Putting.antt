@@ -4,7 +4,7 @@ use Rattle.std.specs.Prelude.{if◌then◌else◌, Option, None, Some, not, filt
 use Rattle.std.specs.Option.{option_map_or}
 use Rattle.std.specs.List.{range_with_len}
 use Rattle.std.proofs.Math.Seq.{drop-cons, set-append_seam}
-use Rattle.std.proofs.lemmas.List.{append_assoc, append-nil, drop_all, length-map, length_push, map-append, take_all}
+use Rattle.std.proofs.lemmas.List.{append_assoc, append-nil, drop_all, length-map, length-set, length_push, map-append, take_all}
 use Rattle.std.proofs.lemmas.List.FromFn.{get_or-map-range_with_len, length-range_with_len, length-map-range_with_len}
 use Rattle.re_terms.specs.declared.word.Word.{Word}
 use Rattle.re_terms.specs.declared.entry.Put.{Put}
@@ -21,6 +21,11 @@ use Rattle.re_prop.proofs.Before.{kept_word}
 use Rattle.re_prop.proofs.Cells.{cell_ids-count, never}
 use Rattle.re_prop.proofs.Outcomes.{effect_word}
 
+-- there are as many words behind it
+pub length-put_at : (place : ℕ → ℕ) (words : List Word) (puts : List Put) → length (put_at place words puts) ≡ length words
+length-put_at place words [] = refl
+length-put_at place words (x ∷ puts) = length-put_at place (slice_set words (place x.id) x.word) puts ∙ length-set words (place x.id) x.word
+
 put_at-append : (place : ℕ → ℕ) (words : List Word) (xs ys : List Put) → put_at place words (xs ++ ys) ≡ put_at place (put_at place words xs) ys
 put_at-append place words [] ys = refl
 put_at-append place words (x ∷ xs) ys = put_at-append place (slice_set words (place x.id) x.word) xs ys
@@ -31,7 +36,6 @@ module _ (place : ℕ → ℕ) (words : List Word) (keep changed : ℕ → Bool)
     (at : (id : ℕ) → id < n_all → keep id ≡ true → place id ≡ length (filter keep (range_with_len 0 id)))
     (moved : (id : ℕ) → id < n_all → changed id ≡ true → put id ≡ new id)
     (still : (id : ℕ) → id < n_all → keep id ≡ true → changed id ≡ false → slice_index_or words (place id) no_word ≡ new id) where
-
   abbrev puts_below : ℕ → List Put
   puts_below n = map (λ id. record { id = id; word = put id }) (filter changed (range_with_len 0 n))
 

@@ -89,9 +89,9 @@ pub read_is : (p : Program) (s : State) (e : Entry) (behind : RState) (decls : L
 read_is p s e behind decls graph reached used_list before found marks same graph_is reached_is used_is before_is found_is marks_are =
     chosen_is (length p.decls.items) (λ id. is_valued_at p.decls.items id && is_used (graph_of p.decls.items) (reach (graph_of p.decls.items) (touched p s e behind)) id) (signal_word p s.words.items (view_of s.rep)) marks before
     (marks_are ∙ found_is
-      ∙ map_same (λ id. is_valued_at decls id && slice_index_or used_list id false) (λ id. is_valued_at decls id && is_used graph reached id) (range_with_len 0 (length decls)) (All-range (λ id. (is_valued_at decls id && slice_index_or used_list id false) ≡ (is_valued_at decls id && is_used graph reached id)) 0 (length decls) (λ id from to. ap (λ b. is_valued_at decls id && b) (used_is id (omega arith))))
-      ∙ ap (λ ds. map (λ id. is_valued_at ds id && is_used graph reached id) (range_with_len 0 (length ds))) same
-      ∙ ap (λ r. map (λ id. is_valued_at p.decls.items id && is_used graph r id) (range_with_len 0 (length p.decls.items))) reached_is
-      ∙ ap (λ g. map (λ id. is_valued_at p.decls.items id && is_used g (reach g (touched p s e behind)) id) (range_with_len 0 (length p.decls.items))) graph_is)
+    ∙ map_same (λ id. is_valued_at decls id && slice_index_or used_list id false) (λ id. is_valued_at decls id && is_used graph reached id) (range_with_len 0 (length decls)) (All-range (λ id. (is_valued_at decls id && slice_index_or used_list id false) ≡ (is_valued_at decls id && is_used graph reached id)) 0 (length decls) (λ id from to. ap (λ b. is_valued_at decls id && b) (used_is id (omega arith))))
+    ∙ ap (λ ds. map (λ id. is_valued_at ds id && is_used graph reached id) (range_with_len 0 (length ds))) same
+    ∙ ap (λ r. map (λ id. is_valued_at p.decls.items id && is_used graph r id) (range_with_len 0 (length p.decls.items))) reached_is
+    ∙ ap (λ g. map (λ id. is_valued_at p.decls.items id && is_used g (reach g (touched p s e behind)) id) (range_with_len 0 (length p.decls.items))) graph_is)
     (λ id behind_all. ap (λ b. b && is_used (graph_of p.decls.items) (reach (graph_of p.decls.items) (touched p s e behind)) id) (at_none (λ d. is_valued_body d.body) p.decls.items id behind_all))
     (λ id. word_before_at p s before id before_is)

@@ -4,5 +4,6 @@ pub mod Effects
 pub mod Evaluated
 pub mod Folds
 pub mod Reading
+pub mod Sample
 pub mod Sets
 pub mod Touched

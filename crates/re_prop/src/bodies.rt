@@ -26,7 +26,10 @@ pub fn is_signal(body: &Body) -> bool
 pub fn is_replicated(body: &Body) -> bool
     ensures { result ≡ is_replicated_body body.now }
 {
-    matches!(body, Body::Counter | Body::Set { .. } | Body::Register { .. })
+    matches!(
+        body,
+        Body::Counter | Body::Set { .. } | Body::Register { .. }
+    )
 }
 
 /// A declaration that has a word.

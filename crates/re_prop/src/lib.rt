@@ -11,6 +11,8 @@ mod prepared;
 mod propagation;
 mod reading;
 pub mod sizes;
+#[cfg(test)]
+mod tests;
 mod touched;
 pub mod view;
 mod walk;

@@ -20,9 +20,9 @@ pub struct Names<'a> {
 
 impl<'a> Env for Names<'a> {
     ghost told = { λ e. record {
-        word = λ id. slice_index_or e.words.now id no_word;
-        size = λ id. cell_size (slice_get e.cells.now (place_of e.decls.now id));
-        has = λ id. cell_has (slice_get e.cells.now (place_of e.decls.now id))
+      word = λ id. slice_index_or e.words.now id no_word;
+      size = λ id. cell_size (slice_get e.cells.now (place_of e.decls.now id));
+      has = λ id. cell_has (slice_get e.cells.now (place_of e.decls.now id));
     } };
 
     fn word(&self, id: u16) -> Word {

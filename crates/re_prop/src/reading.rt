@@ -26,12 +26,7 @@ fn mark_all(marks: &mut [bool], ids: &[u16])
 }
 
 /// Marks what is reached, and the inputs of it, among so many declarations. The one refusal is want of memory.
-fn used(
-    alloc: Global,
-    g: &Graph,
-    reached: &[u16],
-    count: usize,
-) -> Result<Vec<bool>, AllocError>
+fn used(alloc: Global, g: &Graph, reached: &[u16], count: usize) -> Result<Vec<bool>, AllocError>
     requires { All (λ id. id < length g.now) reached.now }
     ensures length { IfOk result (λ marks. length marks.items ≡ count) }
     ensures marks { IfOk result (λ marks. (id : ℕ) → id < count → slice_index_or marks.items id false ≡ is_used g.now reached.now id) }

@@ -196,8 +196,7 @@ impl<'a> Walk<'a> {
             }
             Body::Filter { source, expr } => {
                 let value = effects.value(*source)?;
-                let condition =
-                    self.evaluate(expr, effects, Some(value), None, steps, evaluated);
+                let condition = self.evaluate(expr, effects, Some(value), None, steps, evaluated);
                 filtered(condition, value)
             }
             Body::Either { left, right } => effects.value(*left).or(effects.value(*right)),

@@ -51,12 +51,7 @@ fn known(p: &Program, c: &Cache, s: &State, id: usize, decl: &Decl) -> Word
 }
 
 /// The words of all declarations in a state whose signals are kept. The one refusal is want of memory.
-pub fn from_cache(
-    alloc: Global,
-    p: &Program,
-    c: &Cache,
-    s: &State,
-) -> Result<Vec<Word>, AllocError>
+pub fn from_cache(alloc: Global, p: &Program, c: &Cache, s: &State) -> Result<Vec<Word>, AllocError>
     requires few { length p.now.decls.items ≤ 512 }
     requires cache { c.now ≡ signal_words p.now s.now.words.items (view_of s.now.rep) }
     ensures { IfOk result (λ words. words.items ≡ words_before p.now s.now) }

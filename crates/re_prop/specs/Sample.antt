@@ -1,0 +1,76 @@
+-- Small programs for tests, whose declarations are named by the letters a, b, c and so on.
+-- Read against: `diamond` is `device a; var b: int = 1; signal c = b + 1; signal d = b * 2; signal e = c + d; event f = changed(e); fold g: int = 0 on f do self + 1; event h = changed(g); fold i: int = 0 on h do e + g;`
+-- and `faulty` is `device a; event b: int; fold c: int = 0 on b do self + 10 / arg; event d = filter(b, 10 / arg > 2); fold e: int = 0 on d do recover(arg, 100); event f = changed(c); event g = either(f, b); fold h: int = 0 on g do self + arg;`
+use Rattle.std.specs.Prelude.{ℕ, ◌≡◌, ◌+◌, pos, List, [], ◌∷◌, length, count_by}
+use Rattle.re_terms.specs.Listed.{plain}
+use Rattle.re_terms.specs.declared.word.Word.TheVariants as word
+use Rattle.re_terms.specs.declared.word.Kind.TheVariants as kind
+use Rattle.re_terms.specs.declared.expr.Op.{Op}
+use Rattle.re_terms.specs.declared.expr.Op.TheVariants as op
+use Rattle.re_terms.specs.declared.expr.Expr.{Expr, roll-Expr}
+use Rattle.re_terms.specs.declared.expr.Expr.TheOpen.{Lit, Name, Arg, Own, Bin, Recover}
+use Rattle.re_terms.specs.declared.program.Body.{Body}
+use Rattle.re_terms.specs.declared.program.Body.TheVariants as body
+use Rattle.re_terms.specs.declared.program.Decl.{Decl}
+use Rattle.re_terms.specs.declared.program.Program.{Program}
+use Rattle.re_terms.specs.Cells.{is_cell}
+use Rattle.re_terms.specs.Programs.{IsProgram}
+use Rattle.re_terms.specs.Shapes.{replicated_kinds, start_words}
+
+-- a declaration whose name is one letter
+abbrev pub named : ℕ → Body → Decl
+named letter b = record { name = plain (letter ∷ []); body = b }
+
+-- declarations named by one letter behind the other
+abbrev pub lettered : ℕ → List Body → List Decl
+lettered letter [] = []
+lettered letter (b ∷ bodies) = named letter b ∷ lettered (letter + 1) bodies
+
+abbrev pub program_of : List Body → Program
+program_of bodies = record { decls = plain (lettered 97 bodies) }
+
+abbrev pub number : ℕ → Expr
+number n = roll-Expr (Lit (word.Int (pos n)))
+
+abbrev pub binary : Op → Expr → Expr → Expr
+binary o left right = roll-Expr (Bin o left right)
+
+-- a fold of ints that begins at 0
+abbrev pub fold_on : ℕ → Expr → Body
+fold_on source e = body.Fold kind.Int (word.Int (pos 0)) source e 1
+
+abbrev pub signal : Expr → Body
+signal e = body.Signal kind.Int e
+
+-- 10 by the event's value
+abbrev pub quotient : Expr
+quotient = binary op.Div (number 10) (roll-Expr Arg)
+
+abbrev pub diamond : List Body
+diamond =
+    body.Device ∷ body.Var kind.Int (word.Int (pos 1)) 1
+    ∷ signal (binary op.Add (roll-Expr (Name 1)) (number 1))
+    ∷ signal (binary op.Mul (roll-Expr (Name 1)) (number 2))
+    ∷ signal (binary op.Add (roll-Expr (Name 2)) (roll-Expr (Name 3)))
+    ∷ body.Changed 4
+    ∷ fold_on 5 (binary op.Add (roll-Expr Own) (number 1))
+    ∷ body.Changed 6
+    ∷ fold_on 7 (binary op.Add (roll-Expr (Name 4)) (roll-Expr (Name 6)))
+    ∷ []
+
+abbrev pub faulty : List Body
+faulty =
+    body.Device ∷ body.Event kind.Int
+    ∷ fold_on 1 (binary op.Add (roll-Expr Own) quotient)
+    ∷ body.Filter 1 (binary op.Gt quotient (number 2))
+    ∷ fold_on 3 (roll-Expr (Recover (roll-Expr Arg) (number 100)))
+    ∷ body.Changed 2
+    ∷ body.Either 5 1
+    ∷ fold_on 6 (binary op.Add (roll-Expr Own) (roll-Expr Arg))
+    ∷ []
+
+-- a program without replicated cells, with a start word for each var and fold
+pub record IsSample (p : Program) : Type 0 where
+  pub program : IsProgram p
+  pub words : length (start_words p.decls.items) ≡ count_by is_cell p.decls.items
+  pub cells : replicated_kinds p.decls.items ≡ []

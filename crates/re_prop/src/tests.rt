@@ -1,0 +1,286 @@
+//! Two small programs: a diamond whose sum is counted, and folds and filters with faults.
+ghost use Rattle.std.specs.Prelude.{◌≡◌, ◌<◌, ◌+◌, ◌++◌, ◌∷◌, ◌-◌, [], length, count_by, IfOk, IfSome, OnOk, IsTrue};
+ghost use Rattle.std.specs.List.{All};
+ghost use Rattle.re_terms.specs.Admission.{IsEntryOf};
+ghost use Rattle.re_terms.specs.Cells.{is_cell};
+ghost use Rattle.re_terms.specs.Shapes.{FitsShape, shape_of};
+ghost use Rattle.re_prop.specs.Sample.{IsSample, named, number, binary, signal, quotient, fold_on, program_of, diamond, faulty};
+
+use crate::{Cache, Prepared, propagate};
+use re_eval::Steps;
+use re_graph::Graph;
+use re_terms::{Body, Decl, Entry, Expr, Kind, Op, Program, Put, Seq, State, Text, Turn, Word};
+use sqlite_items::Boxed;
+use std::alloc::{AllocError, Global};
+use std::marker::Brand;
+use std::sync::ledger::{Blank, Ledger};
+use std::test::Fail;
+
+/// Declares a body behind the others, by the next letter.
+fn declare(alloc: Global, decls: &mut Seq<Decl>, body: Body) -> Result<(), AllocError>
+    requires { length decls.old.items < 26 }
+    ensures { OnOk result (decls.new ≡ record { items = decls.old.items ++ named (97 + length decls.old.items) body ∷ []; spare = decls.old.spare - 1 }) }
+{
+    let name = Text::from_bytes(alloc, &[b'a' + decls.len() as u8])?;
+    decls.push(Decl { name, body })
+}
+
+fn number(n: u8) -> Expr
+    ensures { result ≡ number n }
+{
+    Expr::Lit(Word::Int(i64::from(n)))
+}
+
+fn binary(alloc: Global, op: Op, left: Expr, right: Expr) -> Result<Expr, AllocError>
+    ensures { IfOk result (λ e. e ≡ binary op left right) }
+{
+    Ok(Expr::Bin {
+        op,
+        left: Boxed::new(alloc, left)?,
+        right: Boxed::new(alloc, right)?,
+    })
+}
+
+fn fold(source: u16, expr: Expr) -> Body
+    ensures { result ≡ fold_on source expr }
+{
+    Body::Fold {
+        kind: Kind::Int,
+        start: Word::Int(0),
+        source,
+        expr,
+        region: 1,
+    }
+}
+
+fn signal(expr: Expr) -> Body
+    ensures { result ≡ signal expr }
+{
+    Body::Signal {
+        kind: Kind::Int,
+        expr,
+    }
+}
+
+/// 10 by the event's value.
+fn quotient(alloc: Global) -> Result<Expr, AllocError>
+    ensures { IfOk result (λ e. e ≡ quotient) }
+{
+    binary(alloc, Op::Div, number(10), Expr::Arg)
+}
+
+/// The sum of two signals over one var is counted, and the count with the sum is kept.
+fn diamond(alloc: Global) -> Result<Program, AllocError>
+    ensures { IfOk result (λ p. p ≡ program_of diamond) }
+{
+    let mut decls = Seq::new(alloc);
+    declare(alloc, &mut decls, Body::Device)?;
+    let var = Body::Var {
+        kind: Kind::Int,
+        start: Word::Int(1),
+        region: 1,
+    };
+    declare(alloc, &mut decls, var)?;
+    let more = binary(alloc, Op::Add, Expr::Name(1), number(1))?;
+    declare(alloc, &mut decls, signal(more))?;
+    let double = binary(alloc, Op::Mul, Expr::Name(1), number(2))?;
+    declare(alloc, &mut decls, signal(double))?;
+    let sum = binary(alloc, Op::Add, Expr::Name(2), Expr::Name(3))?;
+    declare(alloc, &mut decls, signal(sum))?;
+    declare(alloc, &mut decls, Body::Changed { of: 4 })?;
+    let count = binary(alloc, Op::Add, Expr::Own, number(1))?;
+    declare(alloc, &mut decls, fold(5, count))?;
+    declare(alloc, &mut decls, Body::Changed { of: 6 })?;
+    let both = binary(alloc, Op::Add, Expr::Name(4), Expr::Name(6))?;
+    declare(alloc, &mut decls, fold(7, both))?;
+    Ok(Program { decls })
+}
+
+/// A fold and a filter divide by an event's value; other folds go on with what they give.
+fn faulty(alloc: Global) -> Result<Program, AllocError>
+    ensures { IfOk result (λ p. p ≡ program_of faulty) }
+{
+    let mut decls = Seq::new(alloc);
+    declare(alloc, &mut decls, Body::Device)?;
+    declare(alloc, &mut decls, Body::Event { kind: Kind::Int })?;
+    let sum = binary(alloc, Op::Add, Expr::Own, quotient(alloc)?)?;
+    declare(alloc, &mut decls, fold(1, sum))?;
+    let expr = binary(alloc, Op::Gt, quotient(alloc)?, number(2))?;
+    declare(alloc, &mut decls, Body::Filter { source: 1, expr })?;
+    let recovered = Expr::Recover {
+        tried: Boxed::new(alloc, Expr::Arg)?,
+        other: Boxed::new(alloc, number(100))?,
+    };
+    declare(alloc, &mut decls, fold(3, recovered))?;
+    declare(alloc, &mut decls, Body::Changed { of: 2 })?;
+    declare(alloc, &mut decls, Body::Either { left: 5, right: 1 })?;
+    let total = binary(alloc, Op::Add, Expr::Own, Expr::Arg)?;
+    declare(alloc, &mut decls, fold(6, total))?;
+    Ok(Program { decls })
+}
+
+/// The programs by their places here.
+fn sample(alloc: Global, which: u8) -> Result<Program, AllocError>
+    ensures { IfOk result (λ p. IsSample p) }
+{
+    match which {
+        0 => diamond(alloc),
+        _ => faulty(alloc),
+    }
+}
+
+/// A turn that sets a var or fires a source event of ints, where the id names one.
+fn turn_of(alloc: Global, p: &Program, id: u16, number: i64) -> Result<Option<Entry>, AllocError>
+    ensures { IfOk result (λ found. IfSome found (λ entry. IsEntryOf p.now entry)) }
+{
+    let Some(decl) = p.decls.get(id as usize) else {
+        return Ok(None);
+    };
+    let word = Word::Int(number);
+    let puts = Seq::from_vec(vec![in alloc; Put { id, word }]?);
+    let ops = Seq::new(alloc);
+    let turn = match decl.body {
+        Body::Var {
+            kind: Kind::Int,
+            ..
+        } => Turn {
+            sets: puts,
+            fires: Seq::new(alloc),
+            ops,
+        },
+        Body::Event { kind: Kind::Int } => Turn {
+            sets: Seq::new(alloc),
+            fires: puts,
+            ops,
+        },
+        _ => return Ok(None),
+    };
+    Ok(Some(Entry::Turn(turn)))
+}
+
+/// The state before any entry.
+fn started(alloc: Global, p: &Program) -> Result<State, AllocError>
+    requires { IsSample p.now }
+    ensures words { IfOk result (λ s. length s.words.items ≡ count_by is_cell p.now.decls.items) }
+    ensures rep { IfOk result (λ s. FitsShape (shape_of p.now) s.rep) }
+{
+    let s = State::start(alloc, p)?;
+    Ok(s)
+}
+
+/// A program, the id that a turn sets or fires, its word, and what is then to change, in vars and folds and in signals, and
+/// to be read.
+type Case<'a> = (
+    u8,
+    u16,
+    i64,
+    &'a [(u16, Word)],
+    &'a [(u16, Word)],
+    &'a [(u16, Word)],
+);
+
+fn are(puts: &Seq<Put>, words: &[(u16, Word)]) -> bool {
+    puts.len() == words.len()
+        && puts
+            .as_slice()
+            .iter()
+            .zip(words.iter())
+            .all(|(put, (id, word))| put.id == *id && put.word == *word)
+}
+
+fn are_below(puts: &[Put], count: usize) -> bool
+    ensures { IsTrue result → All (λ put. put.id < count) puts.now }
+{
+    puts.iter().all(|put| (put.id as usize) < count)
+}
+
+/// The word that a cache of so many words has for an id, once words were put into it.
+fn cached(c: &mut Cache, count: usize, puts: &Seq<Put>, id: u16) -> Option<Word>
+    requires { length c.old ≡ count }
+{
+    if !are_below(puts.as_slice(), count) || id as usize >= count {
+        return None;
+    }
+    c.put(puts);
+    Some(c.word(id))
+}
+
+/// What a turn does at the start, and the word of the declaration 4 that is then in the cache.
+fn outcome<L: Ledger>(
+    blank: Blank,
+    alloc: Global,
+    which: u8,
+    id: u16,
+    number: i64,
+) -> Result<Option<(Prepared, Word)>, AllocError>
+    requires name { blank.name ≡ L.name }
+    requires parts { blank.parts ≡ L.parts }
+    requires one { 0 < L.parts }
+{
+    let p = sample(alloc, which)?;
+    let s = started(alloc, &p)?;
+    let g = Graph::build(alloc, &p)?;
+    let mut c = Cache::fill(alloc, &p, &s)?;
+    let Some(entry) = turn_of(alloc, &p, id, number)? else {
+        return Ok(None);
+    };
+    let mut steps = Steps::<L>::new(blank);
+    let prepared = propagate(alloc, &p, &g, &c, &s, &entry, &s.rep, &mut steps)?;
+    let word = cached(&mut c, p.decls.len(), &prepared.signals, 4);
+    Ok(word.map(|word| (prepared, word)))
+}
+
+#[test]
+fn turns_at_the_start(rt: HostRuntime) -> Result<(), Fail> {
+    let alloc = rt.alloc();
+    let (one, two) = (Word::Int(1), Word::Int(2));
+    let (none, fault) = (Word::Int(0), Word::Fault(2));
+    let read: &[(u16, Word)] = &[
+        (1, one),
+        (2, two),
+        (3, two),
+        (4, Word::Int(4)),
+        (6, none),
+        (8, none),
+    ];
+    let folds: &[(u16, Word)] = &[(2, none), (4, none), (7, none)];
+    let cases: [Case; 5] = [
+        (
+            0,
+            1,
+            5,
+            &[(1, Word::Int(5)), (6, one), (8, Word::Int(17))],
+            &[(2, Word::Int(6)), (3, Word::Int(10)), (4, Word::Int(16))],
+            read,
+        ),
+        (0, 1, 1, &[], &[], read),
+        (
+            1,
+            1,
+            2,
+            &[(2, Word::Int(5)), (4, two), (7, Word::Int(5))],
+            &[],
+            folds,
+        ),
+        (
+            1,
+            1,
+            0,
+            &[(2, fault), (4, Word::Int(100)), (7, fault)],
+            &[],
+            folds,
+        ),
+        (1, 1, 10, &[(2, one), (7, one)], &[], folds),
+    ];
+    let cached = [Word::Int(16), Word::Int(4), none, none, none];
+    for ((which, id, number, changes, signals, read), kept) in cases.into_iter().zip(cached) {
+        let found = outcome::<Brand>(Blank::new(1), alloc, which, id, number)?;
+        let (prepared, word) = found.ok_or("no turn")?;
+        assert!(rt; are(&prepared.changes, changes), "changes of {number}");
+        assert!(rt; are(&prepared.signals, signals), "signals of {number}");
+        assert!(rt; are(&prepared.read, read), "read of {number}");
+        assert_eq!(rt; word, kept, "cached behind {number}");
+        assert!(rt; matches!(prepared.entry, Entry::Turn(_)));
+    }
+    Ok(())
+}
