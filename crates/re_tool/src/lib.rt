@@ -5,6 +5,8 @@ mod built;
 mod chunk;
 mod faults;
 pub mod laws;
+#[cfg(test)]
+mod library;
 mod line;
 mod part;
 mod reader;
