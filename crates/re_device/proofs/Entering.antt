@@ -13,7 +13,7 @@ use Rattle.re_terms.specs.Listed.{Listed, plain}
 use Rattle.re_terms.specs.Propagation.{Step, words_after, changes, signal_changes}
 use Rattle.re_terms.specs.Cells.{is_cell, cell_place}
 use Rattle.re_terms.specs.Worlds.{is_full}
-use Rattle.re_prop.specs.Caching.{put_at, put_all, put_cells, cached_word, signal_words}
+use Rattle.re_prop.specs.Caching.{put_at, put_all, cached_word, signal_words}
 use Rattle.re_prop.proofs.Putting.{put_changes, put_signals}
 use Rattle.re_device.specs.Device.{DeviceState, turn_step, turn_entry, after_turn}
 use Rattle.re_device.specs.Placing.{at_each}

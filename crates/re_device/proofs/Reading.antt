@@ -1,11 +1,10 @@
 -- The words that are read of a device.
-use Rattle.std.proofs.Common.{◌≡◌, ◌<◌, ◌≤◌, ◌+◌, ◌⊎◌, inl, inr, ℕ, Bool, true, false, cond, Option, None, Some, List, length, get_or, refl, sym, ap, subst, ◌∙◌, arith}
+use Rattle.std.proofs.Common.{◌≡◌, ◌<◌, ◌≤◌, ◌⊎◌, inl, inr, ℕ, true, Some, List, length, refl, sym, ap, ◌∙◌, arith}
 use Rattle.std.specs.Prelude.{slice_get, slice_index, slice_index_or}
 use Rattle.std.specs.List.{count_by}
-use Rattle.std.specs.Option.{option_map_or}
 use Rattle.std.proofs.lemmas.Bool.{cases_lt}
 use Rattle.std.proofs.lemmas.List.{get_or_past, take_all}
-use Rattle.std.proofs.lemmas.List.FromFn.{length-map-range_with_len, get_or-map-range_with_len}
+use Rattle.std.proofs.lemmas.List.FromFn.{get_or-map-range_with_len}
 use Rattle.std.proofs.lemmas.Option.{slice_get_within}
 use Rattle.re_terms.specs.declared.word.Word.{Word}
 use Rattle.re_terms.specs.declared.word.Kind.{Kind}
@@ -16,11 +15,9 @@ use Rattle.re_terms.specs.declared.program.Decl.{Decl}
 use Rattle.re_terms.specs.declared.program.Program.{Program}
 use Rattle.re_terms.specs.Dependencies.{below}
 use Rattle.re_terms.specs.Programs.{is_replicated}
-use Rattle.re_terms.specs.Propagation.{is_signal_at, is_signal_body}
 use Rattle.re_terms.specs.Cells.{is_cell_body, cell_place}
 use Rattle.re_terms.specs.SignalWords.{no_word, replicated_place, body_word, place_word, signal_word}
 use Rattle.re_terms.specs.Views.{View}
-use Rattle.re_prop.specs.Caching.{cached_word, signal_words}
 use Rattle.re_prop.proofs.Before.{signal_word-own, kept_word}
 use Rattle.re_device.specs.Placing.{at_each, places_of}
 use Rattle.re_device.specs.declared.places.Places.{Places}

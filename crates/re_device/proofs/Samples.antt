@@ -1,5 +1,5 @@
 -- The programs of the tests are programs.
-use Rattle.std.proofs.Common.{◌≡◌, ◌≢◌, ◌<◌, ◌≤◌, ◌+◌, ℕ, zero, suc, Bool, true, false, Option, None, Some, List, [], ◌∷◌, length, map, get_or, take, refl, sym, ap, subst, ◌∙◌, arith, rules}
+use Rattle.std.proofs.Common.{◌≡◌, ◌≢◌, ◌+◌, ℕ, Bool, true, Some, List, [], ◌∷◌, length, map, get_or, take, refl, sym, ap, subst, ◌∙◌, arith}
 use Rattle.std.specs.Prelude.{slice_get, AllPairs, Result, Ok, Err, IfOk}
 use Rattle.std.specs.List.{count_by, list_all, range_with_len}
 use Rattle.std.specs.Option.{option_map_or}
@@ -7,11 +7,10 @@ use Rattle.std.proofs.lemmas.List.Sums.{AllPass-from_list_all}
 use Rattle.std.proofs.lemmas.List.FromFn.{get_or-range_with_len, length-range_with_len, length-map-range_with_len, get_or-map-range_with_len}
 use Rattle.std.proofs.lemmas.Option.{slice_get_within}
 use Rattle.re_terms.specs.declared.expr.Expr.TheFolds.{fold-roll-Expr}
-use Rattle.re_terms.specs.declared.program.Body.{Body}
 use Rattle.re_terms.specs.declared.program.Decl.{Decl}
 use Rattle.re_terms.specs.declared.program.Program.{Program}
 use Rattle.re_terms.specs.Kinds.{keeps_kinds}
-use Rattle.re_terms.specs.Programs.{IsProgram, is_ranged, is_symbol, names_of}
+use Rattle.re_terms.specs.Programs.{IsProgram, is_ranged, is_symbol}
 use Rattle.re_device.specs.Sample.{program_of, lettered, counting, summing, dividing}
 
 -- what a test finds of each declaration holds of each

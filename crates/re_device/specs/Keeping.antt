@@ -1,6 +1,6 @@
 -- What a device keeps beside its state.
 -- Read against: on `device a; var x: int = 1; signal s = x + 1;` a device at the start keeps the number 0, no entry, the words of signals 0, 0, 2, and the places 0, 0, 1 of words.
-use Rattle.std.specs.Prelude.{ℕ, ◌≡◌, ◌<◌, ◌≤◌, ◌^◌, length, count_by}
+use Rattle.std.specs.Prelude.{◌≡◌, ◌<◌, ◌≤◌, ◌^◌, length, count_by}
 use Rattle.re_terms.specs.Admission.{device_count}
 use Rattle.re_terms.specs.Dependencies.{graph_of}
 use Rattle.re_terms.specs.Programs.{IsProgram}

@@ -2,7 +2,6 @@
 -- Read against: `counting` is `device a; var b: int = 1; event c = changed(b); fold d: int = 0 on c do self + 1;`: a turn that sets b to 5 gives d the word 1.
 use Rattle.std.specs.Prelude.{ℕ, ◌+◌, pos, List, [], ◌∷◌}
 use Rattle.re_terms.specs.Listed.{plain}
-use Rattle.re_terms.specs.declared.word.Word.{Word}
 use Rattle.re_terms.specs.declared.word.Word.TheVariants as word
 use Rattle.re_terms.specs.declared.word.Kind.TheVariants as kind
 use Rattle.re_terms.specs.declared.expr.Op.{Op}

@@ -5,6 +5,8 @@ mod device;
 mod env;
 mod fault;
 mod places;
+#[cfg(test)]
+mod tests;
 
 pub use device::Device;
 pub use fault::{DeviceFault, Done};

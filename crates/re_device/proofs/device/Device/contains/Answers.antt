@@ -1,5 +1,5 @@
 -- The set stands at the place that is kept.
-use Rattle.std.proofs.Common.{◌≡◌, refl, sym, ap, ◌∙◌}
+use Rattle.std.proofs.Common.{ap, ◌∙◌}
 use Rattle.std.specs.Prelude.{slice_get}
 use Rattle.re_terms.specs.Views.{View, cell_has, view_of}
 use Rattle.re_device.specs.Device.{DeviceState, told_of}

@@ -1,7 +1,7 @@
 -- The start state fits, and so do its words of signals and its places.
-use Rattle.std.proofs.Common.{◌≡◌, ◌<◌, ◌≤◌, length, sym, ap, subst, ◌∙◌, arith}
+use Rattle.std.proofs.Common.{length, sym, ap, subst, ◌∙◌, arith}
 use Rattle.re_terms.specs.declared.entry.State.{State}
-use Rattle.re_terms.specs.Shapes.{FitsShape, shape_of, start_state}
+use Rattle.re_terms.specs.Shapes.{FitsShape, shape_of}
 use Rattle.re_device.proofs.Starting.{length-start_words, start_replicated-fits}
 use Rattle.re_device.proofs.device.Device.start.Goals as goal
 

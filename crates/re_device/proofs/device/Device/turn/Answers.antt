@@ -1,15 +1,15 @@
 -- The words and signals that a turn changes are put, and it is one entry more.
-use Rattle.std.proofs.Common.{◌≡◌, ◌<◌, ◌≤◌, ◌+◌, ◌++◌, ◌∷◌, [], ℕ, false, List, length, length-append, refl, sym, ap, subst, ◌∙◌, arith}
+use Rattle.std.proofs.Common.{◌≡◌, ◌++◌, ◌∷◌, [], ℕ, false, List, length, length-append, sym, ap, ◌∙◌, arith}
 use Rattle.re_terms.specs.declared.entry.Entry.TheVariants as entry
 use Rattle.re_terms.specs.declared.entry.Logged.{Logged}
-use Rattle.re_terms.specs.Listed.{Listed, plain}
+use Rattle.re_terms.specs.Listed.{plain}
 use Rattle.re_terms.specs.declared.word.Word.{Word}
 use Rattle.re_terms.specs.Views.{view_of}
 use Rattle.re_terms.specs.Worlds.{is_full}
 use Rattle.re_prop.proofs.Cells.{length-words_after}
 use Rattle.re_device.specs.Device.{DeviceState, turn_entry, after_turn}
 use Rattle.re_prop.specs.Caching.{signal_words}
-use Rattle.re_terms.specs.Propagation.{Step, step_in, words_after, changes, signal_changes}
+use Rattle.re_terms.specs.Propagation.{Step, step_in, words_after, changes}
 use Rattle.re_device.proofs.Entering.{put_words-declared, put_words-placed, put_words-is, put_signals-declared, put_signals-is, room_left, one_more, entered}
 use Rattle.re_device.proofs.device.Device.turn.Goals as goal
 

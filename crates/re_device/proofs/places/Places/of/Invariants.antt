@@ -1,5 +1,5 @@
 -- The counts so far, and the places of the declarations so far.
-use Rattle.std.proofs.Common.{◌≡◌, length, map}
+use Rattle.std.proofs.Common.{◌≡◌, map}
 use Rattle.std.specs.List.{range_with_len}
 use Rattle.re_terms.specs.Listed.{plain}
 use Rattle.re_terms.specs.Cells.{cell_place}
