@@ -1,27 +1,9 @@
-//! The order of words and of pairs.
+//! The order of pairs.
 ghost use Rattle.std.specs.Prelude.{◌≡◌};
-ghost use Rattle.re_terms.specs.WordOrder.{word_cmp, pair_cmp};
+ghost use Rattle.re_terms.specs.WordOrder.{pair_cmp};
 
-use re_terms::{Pair, Word};
+use re_terms::{Pair, compare_words};
 use std::cmp::Ordering;
-
-/// Compares two words: ints by value, `false` before `true`, symbols by number; kinds in this order, and faults last.
-pub fn compare_words(a: Word, b: Word) -> Ordering
-    ensures { result ≡ word_cmp a b }
-{
-    match (a, b) {
-        (Word::Int(x), Word::Int(y)) => x.cmp(&y),
-        (Word::Bool(x), Word::Bool(y)) => x.cmp(&y),
-        (Word::Sym(x), Word::Sym(y)) => x.cmp(&y),
-        (Word::Fault(x), Word::Fault(y)) => x.cmp(&y),
-        (Word::Int(_), _) => Ordering::Less,
-        (Word::Bool(_), Word::Int(_)) => Ordering::Greater,
-        (Word::Bool(_), _) => Ordering::Less,
-        (Word::Sym(_), Word::Fault(_)) => Ordering::Less,
-        (Word::Sym(_), _) => Ordering::Greater,
-        (Word::Fault(_), _) => Ordering::Greater,
-    }
-}
 
 /// Compares two pairs: by element, device and number.
 #[tactic(auto, unfolding(re_terms::specs::WordOrder::pair_cmp))]

@@ -4,8 +4,7 @@ ghost use Rattle.std.specs.List.Sorted.{IsStrictlySortedBy};
 ghost use Rattle.re_awset.specs.Places.{is_below, is_up_to};
 ghost use Rattle.re_terms.specs.WordOrder.{pair_cmp};
 
-use crate::order::compare_words;
-use re_terms::{Pair, Seq, Word};
+use re_terms::{Pair, Seq, Word, compare_words};
 use std::cmp::Ordering;
 
 /// The places of an element's pairs: from the first of them up to the one behind the last.

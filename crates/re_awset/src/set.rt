@@ -6,9 +6,8 @@ ghost use Rattle.re_terms.specs.UpdateStates.{pairs_after, without};
 ghost use Rattle.re_terms.specs.WordOrder.{elements_of, pair_cmp, same_word};
 ghost use Rattle.re_terms.specs.declared.replicated.Pair.{Pair as APair};
 
-use crate::order::compare_words;
 use crate::places::{Places, places_of, take_out};
-use re_terms::{Dot, Pair, Seq, SetFault, Word};
+use re_terms::{Dot, Pair, Seq, SetFault, Word, compare_words};
 use std::alloc::AllocError;
 use std::cmp::Ordering;
 

@@ -1,6 +1,6 @@
 //! Counters.
 ghost use Rattle.std.specs.Prelude.{◌≡◌, ◌<◌, ◌^◌, ◌↔◌, IsFalse, IsOk, OnErr, OnOk};
-ghost use Rattle.re_scalars.specs.Limits.{raised_total};
+ghost use Rattle.re_terms.specs.Limits.{raised_total};
 ghost use Rattle.re_terms.specs.CellStates.{join_rows};
 ghost use Rattle.re_terms.specs.UpdateStates.{rows_after};
 ghost use Rattle.re_terms.specs.Views.{total};

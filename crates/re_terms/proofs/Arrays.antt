@@ -6,7 +6,7 @@ use Rattle.re_terms.specs.Vectors.{greater_each}
 
 pub ruleset tests = (nat_tests)
 
-length-greater_each : (xs ys : List ℕ) → length xs ≡ length ys → length (greater_each xs ys) ≡ length xs
+pub length-greater_each : (xs ys : List ℕ) → length xs ≡ length ys → length (greater_each xs ys) ≡ length xs
 unfolding greater_each
 length-greater_each [] [] e = refl
 length-greater_each [] (y ∷ ys) e = absurd (omega arith)

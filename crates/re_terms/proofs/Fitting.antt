@@ -34,15 +34,15 @@ use Rattle.re_terms.proofs.Sets.{adds, adds-dot, has-pairs_of}
 use Rattle.re_terms.proofs.Values.{content_at}
 use Rattle.re_terms.proofs.WordOrders.{same_pair-is, same_pair-refl}
 
-left : (a b : Bool) → (a && b) ≡ true → a ≡ true
+pub left : (a b : Bool) → (a && b) ≡ true → a ≡ true
 left true b e = refl
 left false b e = e
 
-right : (a b : Bool) → (a && b) ≡ true → b ≡ true
+pub right : (a b : Bool) → (a && b) ≡ true → b ≡ true
 right true b e = e
 right false b e = absurd (cc)
 
-both : (a b : Bool) → a ≡ true → b ≡ true → (a && b) ≡ true
+pub both : (a b : Bool) → a ≡ true → b ≡ true → (a && b) ≡ true
 both a b e h = (λ i. e i && h i)
 
 -- a list all of whose members pass a test
@@ -73,7 +73,7 @@ device_of_shape shape u e =
 act_of_shape : (shape : Shape) (u : Update) (place : ℕ) (k : RKind) → is_update_of shape u ≡ true → u.cell ≡ place → slice_get shape.cells.items place ≡ Some k → is_act_of shape.symbols k u.act ≡ true
 act_of_shape shape u place k e same found = sym (ap (λ o. option_map_or (λ k. is_act_of shape.symbols k u.act) o false) (ap (slice_get shape.cells.items) same ∙ found)) ∙ right (nat_lt u.dot.device shape.devices) _ e
 
-in_range : (word : Bool) (device devices number most : ℕ) → word ≡ true → device < devices → 0 < number → number ≤ most → (word && nat_lt device devices && nat_lt 0 number && nat_le number most) ≡ true
+pub in_range : (word : Bool) (device devices number most : ℕ) → word ≡ true → device < devices → 0 < number → number ≤ most → (word && nat_lt device devices && nat_lt 0 number && nat_le number most) ≡ true
 in_range word device devices number most w d n m = grind (arith, nat_tests)
 
 -- what an insert and a write are

@@ -1,7 +1,9 @@
 pub mod Arrays
 pub mod Ascending
 pub mod Counters
+pub mod FirstFaults
 pub mod Fitting
+pub mod FittingStates
 pub mod Joins
 pub mod Joint
 pub mod Lists
@@ -10,6 +12,7 @@ pub mod MemberValues
 pub mod Members
 pub mod OneMore
 pub mod Operations
+pub mod ProgramShapes
 pub mod Registers
 pub mod Sets
 pub mod Ordered
@@ -17,3 +20,4 @@ pub mod Unions
 pub mod Values
 pub mod WordOrders
 pub mod Dots
+pub mod TakenIns

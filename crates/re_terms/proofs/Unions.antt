@@ -14,7 +14,7 @@ use Rattle.re_terms.specs.UpdateSets.{EachOnce, SameUpdates, union}
 use Rattle.re_terms.proofs.Joins.{state_join}
 use Rattle.re_terms.proofs.Members.{state_same, vector_alike}
 
-once_push : (us : List Update) (u : Update) → EachOnce us → (IsIn u us → ⊥) → EachOnce (us ++ u ∷ [])
+pub once_push : (us : List Update) (u : Update) → EachOnce us → (IsIn u us → ⊥) → EachOnce (us ++ u ∷ [])
 once_push [] u h k = (λ z. z, tt)
 once_push (x ∷ us) u h k = (λ m. elim (IsIn-cases x us (u ∷ []) m) [ inl a ↦ h.0 a | inr a ↦ elim a [ inl e ↦ k (inl (sym e)) | inr z ↦ z ] ], once_push us u h.1 (λ m. k (inr m)))
 

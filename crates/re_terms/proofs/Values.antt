@@ -17,8 +17,8 @@ use Rattle.re_terms.specs.CellStates.{Pairing, Pairing.AddWins, part_of, row_of,
 use Rattle.re_terms.specs.UpdateStates.{content_of, contents_from, state_of_updates}
 use Rattle.re_terms.specs.Updates.{Update, IsIn}
 use Rattle.re_terms.specs.Arithmetic.{whole}
-use Rattle.re_terms.specs.Values.{amount, total_amount, cell_value, value_word, value_size, value_has, view_of_updates}
-use Rattle.re_terms.specs.Views.{cell_word, cell_size, cell_has, view_of}
+use Rattle.re_terms.specs.Values.{amount, total_amount, cell_value, value_at, value_elements, value_word, value_size, value_has, view_of_updates}
+use Rattle.re_terms.specs.Views.{cell_elements, cell_word, cell_size, cell_has, view_of}
 use Rattle.re_terms.specs.declared.word.Word.{Word}
 use Rattle.std.specs.declared.cmp.Ordering.{Ordering}
 use Rattle.re_terms.specs.Vectors.{by_device}
@@ -181,3 +181,14 @@ view_is shape us h =
       size = λ place. (ap cell_size (at place) ∙ size_is_value us h place (slice_get shape.cells.items place)) i;
       has = λ place w. (ap (λ c. cell_has c w) (at place) ∙ has_is_value us h place w (slice_get shape.cells.items place)) i;
     }
+
+pub elements_are : (shape : Shape) (us : List Update) (place : ℕ) → cell_elements (slice_get (state_of_updates shape us).cells.items place) ≡ value_elements (value_at shape us place)
+elements_are shape us place =
+    ap cell_elements (content_at shape.cells.items 0 place us ∙ ap (λ n. option_map (λ k. content_of k n us) (slice_get shape.cells.items place)) (omega arith))
+    ∙ of_kind (slice_get shape.cells.items place)
+  where
+    of_kind : (o : Option RKind) → cell_elements (option_map (λ k. content_of k place us) o) ≡ value_elements (option_map (λ k. cell_value k place us) o)
+    of_kind None = refl
+    of_kind (Some kind.Counter) = refl
+    of_kind (Some (kind.Set k)) = elements_is AddWins place us
+    of_kind (Some (kind.Register k start)) = refl

@@ -5,6 +5,7 @@ pub mod Dependencies
 pub mod JointLogs
 pub mod Kinds
 pub mod Layouts
+pub mod Limits
 pub mod Listed
 pub mod Meaning
 pub mod Programs
@@ -15,6 +16,8 @@ pub mod ShapedUpdates
 pub mod Shapes
 pub mod Cells
 pub mod SignalWords
+pub mod Spellings
+pub mod TakenIn
 pub mod Tokens
 pub mod Trees
 pub mod UpdateSets

@@ -1,5 +1,5 @@
 -- Updates of a shape, and states within the limits.
--- Read against: with one device and `counter c; set s: int;` the update (0, 1) that inserts 4 into the cell 1 is of the shape; one that inserts `true`, one of the cell 0, one of the cell 2 and one of device 1 are not.
+-- Read against: with one device and `counter c; set s: int;` the update (0, 1) that inserts 4 into the cell 1 is of the shape; one that inserts `true`, one of the cell 0, one of the cell 2 and one of device 1 are not. The operation `insert 4` on the cell 1 is one of the shape, and on the cell 0 none.
 -- A row with a total of 2^63 is past the limit, and so is a state with 1,025 pairs.
 use Rattle.std.specs.Prelude.{ℕ, ◌^◌, ◌<◌, ◌≤◌, ◌≡◌, ◌&&◌, Bool, false, nat_lt, Some, slice_get}
 use Rattle.std.specs.List.{All, sum_by}
@@ -9,8 +9,13 @@ use Rattle.re_terms.specs.Shapes.{pair_count}
 use Rattle.re_terms.specs.Updates.{Update}
 use Rattle.re_terms.specs.declared.replicated.RCell.{RCell}
 use Rattle.re_terms.specs.declared.replicated.RCell.TheVariants as cell
+use Rattle.re_terms.specs.declared.replicated.RepOp.{RepOp}
 use Rattle.re_terms.specs.declared.replicated.RState.{RState}
 use Rattle.re_terms.specs.declared.replicated.Shape.{Shape}
+
+-- an operation on a cell that takes its act
+abbrev pub is_operation_in : Shape → RepOp → Bool
+is_operation_in shape op = option_map_or (λ k. is_act_of shape.symbols k op.act) (slice_get shape.cells.items op.cell) false
 
 -- an update's device is one of the shape's, and its cell takes its act
 abbrev pub is_update_of : Shape → Update → Bool

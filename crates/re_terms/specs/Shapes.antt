@@ -40,6 +40,12 @@ replicated_kinds decls = filter_map (λ d. replicated_kind d.body) decls
 abbrev pub shape_of : Program → Shape
 shape_of p = record { devices = count_by is_device p.decls.items; symbols = count_by is_symbol p.decls.items; cells = plain (replicated_kinds p.decls.items) }
 
+-- a shape that a program can have: at most 16 devices, 512 symbols and 32 replicated cells
+pub record IsShape (shape : Shape) : Type 0 where
+  pub devices : shape.devices ≤ 16
+  pub symbols : shape.symbols ≤ 512
+  pub cells : length shape.cells.items ≤ 32
+
 -- one 0 for each of 16 devices
 abbrev pub zeros : List ℕ
 zeros = replicate 16 0

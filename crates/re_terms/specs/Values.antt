@@ -55,6 +55,10 @@ abbrev pub value_has : Option CellValue → Word → Bool
 value_has (Some (Elements ws)) w = list_any (λ e. same_word e w) ws
 value_has v w = false
 
+abbrev pub value_elements : Option CellValue → List Word
+value_elements (Some (Elements ws)) = ws
+value_elements v = []
+
 -- what the updates show
 abbrev pub view_of_updates : Shape → List Update → View
 view_of_updates shape us = record { word = λ place. value_word (value_at shape us place); size = λ place. value_size (value_at shape us place); has = λ place. value_has (value_at shape us place) }

@@ -1,6 +1,6 @@
 -- What is read of replicated cells.
 -- Read against: rows with increments 3 and 2 and decrements 1 have the word 4; a set with the pairs of 4 by two dots and of 9 by one has size 2, and has 4 and 9.
-use Rattle.std.specs.Prelude.{ℕ, Bool, false, pos, ◌-ℤ◌, length, Option, Some, slice_get}
+use Rattle.std.specs.Prelude.{ℕ, Bool, false, pos, ◌-ℤ◌, List, [], length, Option, Some, slice_get}
 use Rattle.std.specs.List.{sum, list_any}
 use Rattle.re_terms.specs.Arithmetic.{whole}
 use Rattle.re_terms.specs.WordOrder.{same_word, elements_of}
@@ -36,6 +36,11 @@ cell_size c = 0
 abbrev pub cell_has : Option RCell → Word → Bool
 cell_has (Some (cell.Set pairs)) w = list_any (λ p. same_word p.element w) pairs.items
 cell_has c w = false
+
+-- a set's elements, each once, ascending
+abbrev pub cell_elements : Option RCell → List Word
+cell_elements (Some (cell.Set pairs)) = elements_of pairs.items
+cell_elements c = []
 
 -- what a replicated state shows
 abbrev pub view_of : RState → View

@@ -1,16 +1,20 @@
 //! The laws of replicated states: what devices that exchange their states can rely on.
-ghost use Rattle.std.specs.Prelude.{true, ◌≡◌, ◌<◌, ◌++◌, ◌∷◌, ℕ, List, [], length, slice_index};
+ghost use Rattle.std.specs.Prelude.{true, ◌≡◌, ◌<◌, ◌≤◌, ◌↔◌, ◌++◌, ◌∷◌, ℕ, List, [], None, Some, length, slice_get, slice_index};
+ghost use Rattle.std.specs.List.{list_all, sum_by};
 ghost use Rattle.re_terms.specs.JointLogs.{Further, all_of, IsOneOf, AllFollow};
+ghost use Rattle.re_terms.specs.Limits.{IsFirstFault, OperationFault, after_operations, operation_fault, operations_fault, updates_fault, updates_made};
 ghost use Rattle.re_terms.specs.Replication.{JoinLaw};
-ghost use Rattle.re_terms.specs.ShapedUpdates.{IsWithinLimits, is_update_of};
-ghost use Rattle.re_terms.specs.Shapes.{FitsShape, start_replicated};
+ghost use Rattle.re_terms.specs.ShapedUpdates.{IsWithinLimits, is_operation_in, is_update_of};
+ghost use Rattle.re_terms.specs.Shapes.{FitsShape, pair_count, start_replicated};
+ghost use Rattle.re_terms.specs.TakenIn.{IsTakenIn};
 ghost use Rattle.re_terms.specs.Updates.{Update, IsCausalLog, IsCausallyClosed, IsIn, IsNext, count_of, covered, next_update, operation_of, vector_of};
 ghost use Rattle.re_terms.specs.UpdateSets.{EachOnce, SameUpdates, union};
 ghost use Rattle.re_terms.specs.UpdateStates.{after_operation, join_states, state_of_updates};
-ghost use Rattle.re_terms.specs.Values.{view_of_updates};
+ghost use Rattle.re_terms.specs.Values.{value_at, value_elements, view_of_updates};
 ghost use Rattle.re_terms.specs.Vectors.{join_vectors, with_dot};
-ghost use Rattle.re_terms.specs.Views.{view_of};
+ghost use Rattle.re_terms.specs.Views.{cell_elements, view_of};
 ghost use Rattle.re_terms.specs.declared.replicated.RepOp.{RepOp};
+ghost use Rattle.re_terms.specs.declared.replicated.RState.{RState};
 ghost use Rattle.re_terms.specs.declared.replicated.Shape.{Shape};
 ghost use Rattle.re_terms.specs.declared.word.Word.{Word};
 
@@ -54,7 +58,8 @@ pub fn operation_law()
 
 /// What a state of updates shows of each cell is the value that the updates give it.
 pub fn view_law()
-    ensures { (shape : Shape) (us : List Update) → ((u : Update) → IsIn u us → u.dot.device < 16) → view_of (state_of_updates shape us) ≡ view_of_updates shape us }
+    ensures elements { (shape : Shape) (us : List Update) (place : ℕ) → cell_elements (slice_get (state_of_updates shape us).cells.items place) ≡ value_elements (value_at shape us place) }
+    ensures view { (shape : Shape) (us : List Update) → ((u : Update) → IsIn u us → u.dot.device < 16) → view_of (state_of_updates shape us) ≡ view_of_updates shape us }
 {}
 
 /// A state and its values depend on which updates there are, and not on their order; and the join of two states is that
@@ -89,4 +94,27 @@ pub fn joint_law()
 /// The state of updates of a shape, which are all in one causal log, fits the shape where it is within the limits.
 pub fn fits_law()
     ensures { (shape : Shape) (log us : List Update) → IsCausalLog log → ((u : Update) → IsIn u us → IsIn u log) → ((u : Update) → IsIn u us → is_update_of shape u ≡ true) → IsWithinLimits (state_of_updates shape us) → FitsShape shape (state_of_updates shape us) }
+{}
+
+/// A state that fits a shape fits it after a merge with another such state, where the sets together have at most 1,024
+/// pairs, and after an operation that its cell takes and no limit stands against.
+pub fn fitting_law()
+    ensures joined { (shape : Shape) (a b : RState) → FitsShape shape a → FitsShape shape b → sum_by pair_count (join_states a b).cells.items ≤ 1024 → FitsShape shape (join_states a b) }
+    ensures operated { (shape : Shape) (device : ℕ) (op : RepOp) (r : RState) → shape.devices ≤ 16 → device < shape.devices → is_operation_in shape op ≡ true → operation_fault shape device op r ≡ None → FitsShape shape r → FitsShape shape (after_operation shape device op r) }
+{}
+
+/// The first operation that a limit stands against decides: its fault is that of the operations, whatever comes after it.
+pub fn first_fault_law()
+    ensures { (shape : Shape) (device : ℕ) (ops : List RepOp) (us : List Update) (f : OperationFault) → (updates_fault shape device ops us ≡ Some f) ↔ IsFirstFault shape device ops us f }
+{}
+
+/// A device's operations, each by an update that has seen all that the device has taken in so far: the updates can follow
+/// the log, and what they make is the state after the operations, with the same limits against them. The operations are of
+/// cells that take them.
+pub fn taken_law()
+    ensures start { (device : ℕ) → device < 16 → IsTakenIn [] device [] }
+    ensures made { (log us : List Update) (device : ℕ) (ops : List RepOp) → IsTakenIn log device us → IsTakenIn (log ++ updates_made device ops us) device (us ++ updates_made device ops us) }
+    ensures state { (shape : Shape) (log us : List Update) (device : ℕ) (ops : List RepOp) → IsTakenIn log device us → state_of_updates shape (us ++ updates_made device ops us) ≡ after_operations shape device ops (state_of_updates shape us) }
+    ensures fault { (shape : Shape) (log us : List Update) (device : ℕ) (ops : List RepOp) → IsTakenIn log device us → list_all (is_operation_in shape) ops ≡ true → updates_fault shape device ops us ≡ operations_fault shape device ops (state_of_updates shape us) }
+    ensures devices { (log us : List Update) (device : ℕ) → IsTakenIn log device us → (u : Update) → IsIn u us → u.dot.device < 16 }
 {}

@@ -6,6 +6,7 @@ ghost use Rattle.re_terms.specs.Listed.{plain};
 use crate::TryCopy;
 use std::alloc::{AllocError, Global};
 use std::marker::Model;
+use std::mem;
 
 /// A list over a vector. Beside its items it has a spare: how many pushes or inserts can't fail.
 ///
@@ -107,6 +108,15 @@ impl<T: Drop> Seq<T> {
         self.items[i] = value;
     }
 
+    /// Puts an item in the place of the one at `i`, and gives that one.
+    pub fn replace(&mut self, i: usize, value: T) -> T
+        requires { i < length self.old.items }
+        ensures item { slice_get self.old.items i ≡ Some result }
+        ensures rest { self.new ≡ record { items = slice_set self.old.items i value; spare = self.old.spare } }
+    {
+        mem::replace(&mut self.items[i], value)
+    }
+
     /// Keeps the first `n` items.
     pub fn truncate(&mut self, n: usize)
         ensures { self.new ≡ record { items = take n self.old.items; spare = self.old.spare } }
@@ -192,6 +202,8 @@ mod tests {
         list.truncate(2);
         assert_eq!(rt; list.as_slice(), [2u16, 4].as_slice());
         assert_eq!(rt; list.get(1).copied(), Some(4));
+        assert_eq!(rt; list.replace(1, 6), 4);
+        assert_eq!(rt; list.as_slice(), [2u16, 6].as_slice());
         assert_eq!(rt; list.get(2).copied(), None);
         Ok(())
     }

@@ -2,7 +2,7 @@
 ghost use Rattle.std.specs.Prelude.{◌≡◌, ◌≤◌, length, count_by, IfOk};
 ghost use Rattle.re_terms.specs.Listed.{plain};
 ghost use Rattle.re_terms.specs.Programs.{IsProgram, is_device, is_symbol};
-ghost use Rattle.re_terms.specs.Shapes.{replicated_kind, replicated_kinds, shape_of, start_cell, start_replicated, start_word, start_words, start_state};
+ghost use Rattle.re_terms.specs.Shapes.{IsShape, replicated_kind, replicated_kinds, shape_of, start_cell, start_replicated, start_word, start_words, start_state};
 
 use crate::{
     Body, Decl, Program, RCell, RKind, RState, Rows, Seq, Shape, State, Vector, Word, Written,
@@ -120,7 +120,8 @@ impl Shape {
     /// cells in order of declaration. The one refusal is want of memory.
     pub fn of(alloc: Global, p: &Program) -> Result<Shape, AllocError>
         requires { IsProgram p.now }
-        ensures { IfOk result (λ shape. shape ≡ shape_of p.now) }
+        ensures of { IfOk result (λ shape. shape ≡ shape_of p.now) }
+        ensures limits { IsShape (shape_of p.now) }
     {
         let decls = p.decls.as_slice();
         Ok(Shape {

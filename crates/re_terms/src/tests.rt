@@ -1,7 +1,8 @@
 //! Copies of entries, answers and trees, and what the kinds of cells allow.
 use crate::{
     Act, Answer, Dot, Entry, Kind, Layout, Logged, Mark, Pair, Put, RCell, RKind, RState, RawLit,
-    RawPart, RawTurn, RepOp, Seq, Text, Token, TryCopy, Turn, Vector, Word, allows, layout,
+    RawPart, RawTurn, RepOp, Seq, Text, Token, TryCopy, Turn, Vector, Word, allows, compare_words,
+    layout, same_word,
 };
 use std::test::Fail;
 
@@ -21,6 +22,27 @@ fn kinds_have_their_layouts_and_acts(rt: HostRuntime) -> Result<(), Fail> {
     assert!(rt; allows(RKind::Counter, &Act::Add(-1)));
     assert!(rt; allows(set, &Act::Remove(Word::Sym(2))));
     assert!(rt; !allows(set, &Act::Write(Word::Sym(2))));
+    Ok(())
+}
+
+#[test]
+fn words_are_compared(rt: HostRuntime) -> Result<(), Fail> {
+    let ascending = [
+        Word::Int(-3),
+        Word::Int(4),
+        Word::Bool(false),
+        Word::Bool(true),
+        Word::Sym(0),
+        Word::Sym(1),
+        Word::Fault(1),
+        Word::Fault(100),
+    ];
+    'firsts: for (i, a) in ascending.iter().enumerate() {
+        'seconds: for (j, b) in ascending.iter().enumerate() {
+            assert!(rt; compare_words(*a, *b) == i.cmp(&j));
+            assert!(rt; same_word(*a, *b) == (i == j));
+        }
+    }
     Ok(())
 }
 
