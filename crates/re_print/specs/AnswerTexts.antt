@@ -2,11 +2,15 @@
 -- Read against: the fourth entry has the text `ok 4`, the fault 2 `fault 2`, the set of 9 and 4 `{4, 9}`, the bytes 7 and 255 `07ff`, a bad file 1 at place 40 `no 37 file 1 at 40`.
 use Rattle.std.specs.Prelude.{ℕ, List, ◌++◌, codes}
 use Rattle.std.specs.List.{join_by}
+use Rattle.std.specs.List.Sorted.{IsStrictlySortedBy}
 use Rattle.std.specs.Fmt.{decimal}
 use Rattle.hex.specs.Hex.{encode_lower}
 use Rattle.re_terms.specs.declared.word.Word.{Word}
 use Rattle.re_terms.specs.declared.program.Program.{Program}
+use Rattle.re_terms.specs.declared.command.Answer.{Answer}
+use Rattle.re_terms.specs.declared.command.Answer.TheVariants as answer
 use Rattle.re_terms.specs.Worlds.{PlainAnswer, Entered, Applied, Settled, Value, Members, Packet, Hex, Down, Up, Refused, StoppedAt, BadFile}
+use Rattle.re_terms.specs.WordOrder.{pair_cmp}
 use Rattle.re_print.specs.Canonical.{word_text}
 
 -- a set's elements between braces, a comma and a blank between each two
@@ -28,7 +32,7 @@ answer_text p (Refused code) = codes "no " ++ decimal code
 answer_text p (StoppedAt call) = codes "no 34 at " ++ decimal call
 answer_text p (BadFile file place) = codes "no 37 file " ++ decimal file ++ codes " at " ++ decimal place
 
--- the answer is no set
-abbrev pub IsNoSet : PlainAnswer → Type 0
-IsNoSet (Members elements) = ⊥
-IsNoSet a = Unit
+-- the pairs ascend where the answer is a set
+abbrev pub AscendsWhereSet : Answer → Type 0
+AscendsWhereSet (answer.Members pairs) = IsStrictlySortedBy pair_cmp pairs.items
+AscendsWhereSet a = Unit

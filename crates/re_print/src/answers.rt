@@ -4,8 +4,9 @@ ghost use Rattle.std.specs.Fmt.{decimal};
 ghost use Rattle.hex.specs.Hex.{encode_lower};
 ghost use Rattle.re_outside.specs.Listed.{plain};
 ghost use Rattle.re_terms.specs.Worlds.{plain_answer};
-ghost use Rattle.re_print.specs.AnswerTexts.{answer_text, IsNoSet};
+ghost use Rattle.re_print.specs.AnswerTexts.{answer_text, AscendsWhereSet};
 
+use crate::sets::write_set;
 use crate::words::{write_number, write_word};
 use re_outside::Bytes;
 use re_terms::{Answer, Program};
@@ -35,11 +36,12 @@ fn write_hex(alloc: Global, text: &mut Vec<u8>, bytes: &[u8]) -> Result<(), Allo
     text.extend_from_slice(digits.as_bytes())
 }
 
-/// The text of an answer that is no set, without the line's end.
+/// The text of an answer, without the line's end.
 ///
-/// A symbol's number that the program hasn't gives the empty text. The one refusal is want of memory.
+/// The condition is that the pairs of a set ascend, as those of every set do. A symbol's number that the program hasn't is
+/// written as nothing. The one refusal is want of memory.
 pub fn print_answer(alloc: Global, p: &Program, a: &Answer) -> Result<Bytes, AllocError>
-    requires members { IsNoSet (plain_answer a.now) }
+    requires members { AscendsWhereSet a.now }
     ensures { IfOk result (λ text. text ≡ plain (answer_text p.now (plain_answer a.now))) }
 {
     let mut text = Vec::new(alloc);
@@ -48,8 +50,7 @@ pub fn print_answer(alloc: Global, p: &Program, a: &Answer) -> Result<Bytes, All
         Answer::Applied(number) => write_numbered(&mut text, b"applied ", *number)?,
         Answer::Settled(number) => write_numbered(&mut text, b"settled ", *number)?,
         Answer::Value(word) => write_word(&mut text, p, *word)?,
-        // The condition leaves no set.
-        Answer::Members(_) => {}
+        Answer::Members(pairs) => write_set(&mut text, p, pairs)?,
         Answer::Packet(number) => write_numbered(&mut text, b"packet ", *number)?,
         Answer::Hex(bytes) => write_hex(alloc, &mut text, bytes.as_slice())?,
         Answer::Down => text.extend_from_slice(b"down")?,

@@ -6,6 +6,7 @@ mod exprs;
 mod lines;
 mod names;
 pub mod print;
+pub mod sets;
 #[cfg(test)]
 mod tests;
 mod texts;
@@ -13,3 +14,4 @@ mod words;
 
 pub use answers::print_answer;
 pub use print::{print_program, print_word};
+pub use sets::print_set;

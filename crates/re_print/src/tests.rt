@@ -1,6 +1,12 @@
 //! Printed programs, words and answers, beside their texts as they are written by hand.
-use crate::{print_answer, print_program, print_word};
-use re_terms::{Answer, Body, Decl, Expr, Kind, Op, Program, Seq, Text, Word};
+ghost use Rattle.std.specs.Prelude.{◌≡◌, IfOk};
+ghost use Rattle.std.specs.List.Sorted.{IsStrictlySortedBy};
+ghost use Rattle.std.specs.declared.cmp.Ordering.TheVariants.{Less};
+ghost use Rattle.re_terms.specs.WordOrder.{pair_cmp};
+ghost use Rattle.re_print.specs.Sample.{numbered};
+
+use crate::{print_answer, print_program, print_set, print_word};
+use re_terms::{Answer, Body, Decl, Dot, Expr, Kind, Op, Pair, Program, Seq, Text, Word};
 use sqlite_items::Boxed;
 use std::alloc::{AllocError, Global};
 use std::test::Fail;
@@ -229,6 +235,68 @@ fn prints_answers(rt: HostRuntime) -> Result<(), Fail> {
     for (answer, text) in cases {
         assert!(rt; !matches!(answer, Answer::Members(_)));
         let printed = print_answer(alloc, &p, &answer)?;
+        assert_eq!(rt; printed.as_slice(), text);
+    }
+    Ok(())
+}
+
+/// The pairs of three elements, by the dots 1, 2 and 3 of one device.
+fn pairs_of(alloc: Global, a: Word, b: Word, c: Word) -> Result<Seq<Pair>, AllocError>
+    requires first { pair_cmp (numbered a 1) (numbered b 2) ≡ Less }
+    requires ends { pair_cmp (numbered a 1) (numbered c 3) ≡ Less }
+    requires second { pair_cmp (numbered b 2) (numbered c 3) ≡ Less }
+    ensures { IfOk result (λ pairs. IsStrictlySortedBy pair_cmp pairs.items) }
+{
+    let mut pairs = Seq::new(alloc);
+    pairs.push(numbered(a, 1))?;
+    pairs.push(numbered(b, 2))?;
+    pairs.push(numbered(c, 3))?;
+    Ok(pairs)
+}
+
+/// A pair of an element, by the dot of the device 0 with this number.
+fn numbered(element: Word, number: u64) -> Pair
+    ensures { result ≡ numbered element number }
+{
+    let dot = Dot { device: 0, number };
+    Pair { element, dot }
+}
+
+/// Sets by their places here.
+#[tactic(auto, unfolding(re_terms::specs::WordOrder::pair_cmp))]
+fn set(alloc: Global, which: u8) -> Result<Seq<Pair>, AllocError>
+    ensures { IfOk result (λ pairs. IsStrictlySortedBy pair_cmp pairs.items) }
+{
+    match which {
+        0 => Ok(Seq::new(alloc)),
+        1 => pairs_of(alloc, Word::Int(4), Word::Int(4), Word::Int(4)),
+        2 => pairs_of(alloc, Word::Int(-12), Word::Int(4), Word::Int(9)),
+        3 => pairs_of(alloc, Word::Bool(false), Word::Bool(true), Word::Bool(true)),
+        _ => pairs_of(alloc, Word::Sym(0), Word::Sym(0), Word::Sym(1)),
+    }
+}
+
+#[test]
+fn prints_sets(rt: HostRuntime) -> Result<(), Fail> {
+    let alloc = rt.alloc();
+    let mut built = Built::new(alloc);
+    // By name the second would be the first.
+    built.declare(b"red", Body::Symbol)?;
+    built.declare(b"blue", Body::Symbol)?;
+    let decls = built.decls;
+    let p = Program { decls };
+    let texts = [
+        b"{}".as_slice(),
+        b"{4}",
+        b"{-12, 4, 9}",
+        b"{false, true}",
+        b"{red, blue}",
+    ];
+    for (which, text) in (0..5).zip(texts) {
+        let pairs = set(alloc, which)?;
+        let printed = print_set(alloc, &p, &pairs)?;
+        assert_eq!(rt; printed.as_slice(), text);
+        let printed = print_answer(alloc, &p, &Answer::Members(pairs))?;
         assert_eq!(rt; printed.as_slice(), text);
     }
     Ok(())

@@ -4,12 +4,14 @@ ghost use Rattle.re_print.specs.Canonical.{truth_text, kind_text, op_text, keywo
 
 use re_terms::{Body, Kind, Op};
 
+/// A truth value's text: `true` or `false`.
 pub fn truth_text(truth: bool) -> &'static [u8]
     ensures { result.now ≡ truth_text truth }
 {
     if truth { b"true" } else { b"false" }
 }
 
+/// A kind's text: `int`, `bool` or `sym`.
 pub fn kind_text(kind: Kind) -> &'static [u8]
     ensures { result.now ≡ kind_text kind }
 {
@@ -20,6 +22,7 @@ pub fn kind_text(kind: Kind) -> &'static [u8]
     }
 }
 
+/// An operator's text: its sign, or `and` or `or`.
 pub fn op_text(op: Op) -> &'static [u8]
     ensures { result.now ≡ op_text op }
 {
