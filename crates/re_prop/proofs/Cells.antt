@@ -41,7 +41,7 @@ cell_ids-count decls (suc n) within =
     ∙ count_by_bool decls n (is_cell (get_or decls n some_decl)) (omega arith) refl (cell_ids-count decls n (omega arith))
     ∙ ap (λ k. count_by is_cell (take k decls)) (sym s)
 
--- there are as many words of vars and folds behind an entry as there are vars and folds
+-- there are as many words of vars and folds after an entry as there are vars and folds
 pub length-words_after : (p : Program) (s : Step) → length (words_after p s) ≡ count_by is_cell p.decls.items
 length-words_after p s =
     length-map (cell_ids p.decls.items) (λ id. (effect p s id).word)
@@ -90,7 +90,7 @@ module _ {A : Type 0} (p : ℕ → Bool) (f : ℕ → A) (d : A) where
       let s : suc n ≡ n + 1 = omega arith in
       ap (λ m. get_or (map f (filter p (range_with_len 0 m))) (length (filter p (range_with_len 0 k))) d) s ∙ at_by k n under passes (λ before. filter_range-at k n before passes) (p n) refl (cases_eq k n)
 
--- the word of a var or fold behind an entry stands at its place
+-- the word of a var or fold after an entry stands at its place
 pub words_after-at : (p : Program) (s : Step) (id : ℕ) → id < length p.decls.items → is_cell_at p.decls.items id ≡ true → slice_index_or (words_after p s) (cell_place p.decls.items id) no_word ≡ (effect p s id).word
 words_after-at p s id within cell =
     ap (λ k. slice_index_or (words_after p s) k no_word) (sym (cell_ids-count p.decls.items id (omega arith)))

@@ -3,6 +3,7 @@ pub mod Before
 pub mod Cells
 pub mod Choosing
 pub mod Distinct
+pub mod Entering
 pub mod Fits
 pub mod Givens
 pub mod Consequences

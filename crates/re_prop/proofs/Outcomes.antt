@@ -1,4 +1,4 @@
--- The words behind an entry are those of the state behind it.
+-- The words after an entry are those of the state after it.
 use Rattle.std.proofs.Common.{◌≡◌, ◌<◌, ◌==◌, ℕ, zero, suc, Bool, true, false, cond, length, refl, sym, ap, ◌∙◌}
 use Rattle.std.specs.Prelude.{Option, None, Some, slice_get, slice_index_or}
 use Rattle.std.specs.Option.{option_map_or}
@@ -15,7 +15,7 @@ use Rattle.re_terms.specs.SignalWords.{body_word, no_word, place_word, signal_wo
 use Rattle.re_prop.proofs.Along.{effect-own}
 use Rattle.re_prop.proofs.Cells.{words_after-at}
 
--- a var or a fold: its word behind the entry is kept
+-- a var or a fold: its word after the entry is kept
 cell_word : (p : Program) (s : Step) (n : ℕ) (d : Decl) → slice_get p.decls.items n ≡ Some d → is_cell_body d.body ≡ true → (body_effect p s n d.body (below no_effect (place_effect p s) n)).word ≡ slice_index_or (words_after p s) (cell_place p.decls.items n) no_word
 cell_word p s n d at cell =
     let within : n < length p.decls.items = slice_get_within p.decls.items n d at in
@@ -49,6 +49,6 @@ word_below : (p : Program) (s : Step) (n id : ℕ) → (below no_effect (place_e
 word_below p s zero id = refl
 word_below p s (suc n) id = next_below p s n id (λ name. word_below p s n name) (id == n)
 
--- the word that a declaration has behind an entry is its word in the state behind it
+-- the word that a declaration has after an entry is its word in the state after it
 pub effect_word : (p : Program) (s : Step) (id : ℕ) → (effect p s id).word ≡ signal_word p (words_after p s) s.new_view id
 effect_word p s id = word_below p s (length p.decls.items) id

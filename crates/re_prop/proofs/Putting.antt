@@ -1,4 +1,4 @@
--- What is put gives the words behind an entry.
+-- What is put gives the words after an entry.
 use Rattle.std.proofs.Common.{◌≡◌, ◌<◌, ◌≤◌, ◌+◌, ℕ, zero, suc, Bool, true, false, ◌&&◌, List, [], ◌∷◌, ◌++◌, map, length, drop, refl, sym, ap, ◌∙◌, arith}
 use Rattle.std.specs.Prelude.{if◌then◌else◌, Option, None, Some, not, filter, count_by, slice_get, slice_index_or, slice_set}
 use Rattle.std.specs.Option.{option_map_or}
@@ -21,7 +21,7 @@ use Rattle.re_prop.proofs.Before.{kept_word}
 use Rattle.re_prop.proofs.Cells.{cell_ids-count, never}
 use Rattle.re_prop.proofs.Outcomes.{effect_word}
 
--- there are as many words behind it
+-- there are as many words after it
 pub length-put_at : (place : ℕ → ℕ) (words : List Word) (puts : List Put) → length (put_at place words puts) ≡ length words
 length-put_at place words [] = refl
 length-put_at place words (x ∷ puts) = length-put_at place (slice_set words (place x.id) x.word) puts ∙ length-set words (place x.id) x.word
@@ -45,7 +45,7 @@ module _ (place : ℕ → ℕ) (words : List Word) (keep changed : ℕ → Bool)
   abbrev mixed : ℕ → List Word
   mixed n = map new (kept_below n) ++ drop (length (kept_below n)) words
 
-  -- the list behind the number, where it is kept
+  -- the list after the number, where it is kept
   grown : (n : ℕ) → keep n ≡ true → mixed (n + 1) ≡ map new (kept_below n) ++ new n ∷ drop (suc (length (kept_below n))) words
   grown n is =
       let more : kept_below (n + 1) ≡ kept_below n ++ n ∷ [] = filter_range-takes keep n is in
@@ -122,7 +122,7 @@ kept_at p cells view id cell =
     let found = at_some p.decls.items id is_cell (slice_get p.decls.items id) refl cell in
     kept_word p cells view id found.0 found.1.0 found.1.1
 
--- the changes of an entry, put at their places into the words before it, give the words behind it
+-- the changes of an entry, put at their places into the words before it, give the words after it
 pub put_changes : (p : Program) (s : Step) → length s.words ≡ count_by is_cell p.decls.items → put_cells p.decls.items s.words (changes p s) ≡ words_after p s
 put_changes p s count =
     let new : ℕ → Word = λ id. (effect p s id).word in
@@ -141,7 +141,7 @@ cached_same : (p : Program) (s : Step) (id : ℕ) (b : Bool) → is_signal_at p.
 cached_same p s id true is same = same_word-is _ _ (not_false true _ refl same) ∙ effect_word p s id
 cached_same p s id false is same = refl
 
--- the changed signals of an entry, put into the words of signals before it, give those behind it
+-- the changed signals of an entry, put into the words of signals before it, give those after it
 pub put_signals : (p : Program) (s : Step) → put_all (signal_words p s.words s.old_view) (signal_changes p s) ≡ signal_words p (words_after p s) s.new_view
 put_signals p s =
     let decls = p.decls.items in

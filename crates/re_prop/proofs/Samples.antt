@@ -16,7 +16,7 @@ use Rattle.re_terms.specs.declared.replicated.RKind.{RKind}
 use Rattle.re_terms.specs.Kinds.{keeps_kinds}
 use Rattle.re_terms.specs.Programs.{is_ranged, is_symbol}
 use Rattle.re_terms.specs.Shapes.{FitsShape, pair_count, replicated_kinds, shape_of, start_cell, start_replicated, zeros}
-use Rattle.re_prop.specs.Sample.{IsSample, program_of, lettered, diamond, faulty}
+use Rattle.re_prop.specs.Sample.{IsSample, program_of, lettered, diamond, faulty, dividing, counting, clearing}
 
 -- what a test finds of each declaration holds of each
 by_test : (decls : List Decl) (test : ℕ → Decl → Bool) → list_all (λ id. option_map_or (test id) (slice_get decls id) true) (range_with_len 0 (length decls)) ≡ true → (id : ℕ) (d : Decl) → slice_get decls id ≡ Some d → test id d ≡ true
@@ -69,6 +69,66 @@ faulty-sample =
         devices = omega arith;
         names = refl;
         distinct = letters 97 8;
+        kinds = by_test decls (λ id d. keeps_kinds (take id decls) d.body) (simp fold-roll-Expr);
+        ranges = by_test decls (λ id d. is_ranged (count_by is_symbol (take id decls)) d.body) (simp fold-roll-Expr);
+      };
+      words = refl;
+      cells = refl;
+    }
+
+pub dividing-sample : IsSample (program_of dividing)
+dividing-sample =
+    let decls : List Decl = lettered 97 dividing in
+    record {
+      program = record {
+        plain = refl;
+        few = omega arith;
+        cells = omega arith;
+        replicated = omega arith;
+        device = omega arith;
+        devices = omega arith;
+        names = refl;
+        distinct = letters 97 4;
+        kinds = by_test decls (λ id d. keeps_kinds (take id decls) d.body) (simp fold-roll-Expr);
+        ranges = by_test decls (λ id d. is_ranged (count_by is_symbol (take id decls)) d.body) (simp fold-roll-Expr);
+      };
+      words = refl;
+      cells = refl;
+    }
+
+pub counting-sample : IsSample (program_of counting)
+counting-sample =
+    let decls : List Decl = lettered 97 counting in
+    record {
+      program = record {
+        plain = refl;
+        few = omega arith;
+        cells = omega arith;
+        replicated = omega arith;
+        device = omega arith;
+        devices = omega arith;
+        names = refl;
+        distinct = letters 97 4;
+        kinds = by_test decls (λ id d. keeps_kinds (take id decls) d.body) (simp fold-roll-Expr);
+        ranges = by_test decls (λ id d. is_ranged (count_by is_symbol (take id decls)) d.body) (simp fold-roll-Expr);
+      };
+      words = refl;
+      cells = refl;
+    }
+
+pub clearing-sample : IsSample (program_of clearing)
+clearing-sample =
+    let decls : List Decl = lettered 97 clearing in
+    record {
+      program = record {
+        plain = refl;
+        few = omega arith;
+        cells = omega arith;
+        replicated = omega arith;
+        device = omega arith;
+        devices = omega arith;
+        names = refl;
+        distinct = letters 97 6;
         kinds = by_test decls (λ id d. keeps_kinds (take id decls) d.body) (simp fold-roll-Expr);
         ranges = by_test decls (λ id d. is_ranged (count_by is_symbol (take id decls)) d.body) (simp fold-roll-Expr);
       };

@@ -1,5 +1,5 @@
 -- The effects of declarations, as they are found one by one.
--- Read against: behind `var x: int = 1; event e: int;` with x set to 5 and e not fired, the words are 5 and 0, and the values None and None.
+-- Read against: after an entry on `var x: int = 1; event e: int;` with x set to 5 and e not fired, the words are 5 and 0, and the values None and None.
 use Rattle.std.specs.Prelude.{ℕ, List, Option, None, map, length, slice_index_or}
 use Rattle.std.specs.List.{range_with_len}
 use Rattle.re_terms.specs.declared.word.Word.{Word}

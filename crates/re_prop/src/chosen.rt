@@ -9,8 +9,8 @@ ghost use Rattle.re_terms.specs.WordOrder.{same_word};
 ghost use Rattle.re_prop.specs.Chosen.{chosen_words};
 
 use crate::bodies::{is_cell, is_signal};
-use crate::view::{is_same, word_in};
-use re_terms::{Decl, Put, Seq, Word};
+use crate::view::word_in;
+use re_terms::{Decl, Put, Seq, Word, same_word};
 use std::alloc::{AllocError, Global};
 
 /// The words of the places that are marked. The one refusal is want of memory.
@@ -34,14 +34,14 @@ pub fn chosen(alloc: Global, marks: &[bool], words: &[Word]) -> Result<Seq<Put>,
 fn is_changed_cell(decl: &Decl, old: Word, new: Word) -> bool
     ensures { result ≡ (is_cell_body decl.now.body && not (same_word old new)) }
 {
-    is_cell(&decl.body) && !is_same(old, new)
+    is_cell(&decl.body) && !same_word(old, new)
 }
 
 /// A signal whose words differ.
 fn is_changed_signal(decl: &Decl, old: Word, new: Word) -> bool
     ensures { result ≡ (is_signal_body decl.now.body && not (same_word old new)) }
 {
-    is_signal(&decl.body) && !is_same(old, new)
+    is_signal(&decl.body) && !same_word(old, new)
 }
 
 /// The vars and folds whose words differ in two lists. The one refusal is want of memory.

@@ -36,8 +36,8 @@ pub fn unchanged_law()
         (effect p step id).occurrence ≡ None }
 {}
 
-/// What an entry changes leads from the state before it to the state behind it: each declaration has its word there, and
-/// the changes, put into the words of vars and folds and into the words of signals, give those behind it.
+/// What an entry changes leads from the state before it to the state after it: each declaration has its word there, and
+/// the changes, put into the words of vars and folds and into the words of signals, give those after it.
 pub fn put_law()
     ensures words { (p : Program) (step : Step) (id : ℕ) → (effect p step id).word ≡ signal_word p (words_after p step) step.new_view id }
     ensures count { (p : Program) (step : Step) → length (words_after p step) ≡ count_by is_cell p.decls.items }

@@ -5,6 +5,8 @@ mod bodies;
 mod cache;
 mod chosen;
 mod effects;
+#[cfg(test)]
+mod histories;
 pub mod laws;
 mod names;
 mod prepared;

@@ -25,7 +25,7 @@ use re_terms::{Entry, Program, RState, State, TryCopy};
 use std::alloc::{AllocError, Global};
 use std::sync::ledger::Ledger;
 
-/// What an entry changes in a state of the program, where the replicated state is `after` behind it.
+/// What an entry changes in a state of the program, where the replicated state is `after` once it is taken.
 ///
 /// The steps rise by the count of evaluated expressions, and may have risen where memory runs out, the one refusal.
 pub fn propagate<L: Ledger>(

@@ -6,8 +6,7 @@ ghost use Rattle.re_terms.specs.Views.{cell_size};
 ghost use Rattle.re_terms.specs.WordOrder.{elements_of, pair_cmp, same_word};
 ghost use Rattle.re_prop.specs.Sets.{HasSets};
 
-use crate::view::is_same;
-use re_terms::{Pair, RCell};
+use re_terms::{Pair, RCell, same_word};
 use std::alloc::{AllocError, Global};
 
 /// Whether the pair at a place is the first one of its element: those of one element stand side by side.
@@ -16,7 +15,7 @@ fn is_first(pairs: &[Pair], i: usize) -> bool
     ensures start { i ≡ 0 → result ≡ true }
     ensures later { (d : Pair) → 0 < i → result ≡ not (same_word (slice_index_or pairs.now (i - 1) d).element (slice_index_or pairs.now i d).element) }
 {
-    i == 0 || !is_same(pairs[i - 1].element, pairs[i].element)
+    i == 0 || !same_word(pairs[i - 1].element, pairs[i].element)
 }
 
 /// How many elements a set has.

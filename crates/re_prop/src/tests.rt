@@ -1,10 +1,10 @@
-//! Two small programs: a diamond whose sum is counted, and folds and filters with faults.
+//! Small programs: a diamond whose sum is counted, and folds and filters with faults; and what one turn does to them.
 ghost use Rattle.std.specs.Prelude.{◌≡◌, ◌<◌, ◌+◌, ◌++◌, ◌∷◌, ◌-◌, [], length, count_by, IfOk, IfSome, OnOk, IsTrue};
 ghost use Rattle.std.specs.List.{All};
 ghost use Rattle.re_terms.specs.Admission.{IsEntryOf};
 ghost use Rattle.re_terms.specs.Cells.{is_cell};
 ghost use Rattle.re_terms.specs.Shapes.{FitsShape, shape_of};
-ghost use Rattle.re_prop.specs.Sample.{IsSample, named, number, binary, signal, quotient, fold_on, program_of, diamond, faulty};
+ghost use Rattle.re_prop.specs.Sample.{IsSample, named, number, binary, recover, var, signal, quotient, quotient_sum, recovering, fold_on, program_of, diamond, faulty, dividing, counting, clearing};
 
 use crate::{Cache, Prepared, propagate};
 use re_eval::Steps;
@@ -16,7 +16,7 @@ use std::marker::Brand;
 use std::sync::ledger::{Blank, Ledger};
 use std::test::Fail;
 
-/// Declares a body behind the others, by the next letter.
+/// Declares a body after the others, by the next letter.
 fn declare(alloc: Global, decls: &mut Seq<Decl>, body: Body) -> Result<(), AllocError>
     requires { length decls.old.items < 26 }
     ensures { OnOk result (decls.new ≡ record { items = decls.old.items ++ named (97 + length decls.old.items) body ∷ []; spare = decls.old.spare - 1 }) }
@@ -53,6 +53,17 @@ fn fold(source: u16, expr: Expr) -> Body
     }
 }
 
+/// A var that is 1 at the start.
+fn var() -> Body
+    ensures { result ≡ var }
+{
+    Body::Var {
+        kind: Kind::Int,
+        start: Word::Int(1),
+        region: 1,
+    }
+}
+
 fn signal(expr: Expr) -> Body
     ensures { result ≡ signal expr }
 {
@@ -75,12 +86,7 @@ fn diamond(alloc: Global) -> Result<Program, AllocError>
 {
     let mut decls = Seq::new(alloc);
     declare(alloc, &mut decls, Body::Device)?;
-    let var = Body::Var {
-        kind: Kind::Int,
-        start: Word::Int(1),
-        region: 1,
-    };
-    declare(alloc, &mut decls, var)?;
+    declare(alloc, &mut decls, var())?;
     let more = binary(alloc, Op::Add, Expr::Name(1), number(1))?;
     declare(alloc, &mut decls, signal(more))?;
     let double = binary(alloc, Op::Mul, Expr::Name(1), number(2))?;
@@ -103,14 +109,10 @@ fn faulty(alloc: Global) -> Result<Program, AllocError>
     let mut decls = Seq::new(alloc);
     declare(alloc, &mut decls, Body::Device)?;
     declare(alloc, &mut decls, Body::Event { kind: Kind::Int })?;
-    let sum = binary(alloc, Op::Add, Expr::Own, quotient(alloc)?)?;
-    declare(alloc, &mut decls, fold(1, sum))?;
+    declare(alloc, &mut decls, fold(1, quotient_sum(alloc)?))?;
     let expr = binary(alloc, Op::Gt, quotient(alloc)?, number(2))?;
     declare(alloc, &mut decls, Body::Filter { source: 1, expr })?;
-    let recovered = Expr::Recover {
-        tried: Boxed::new(alloc, Expr::Arg)?,
-        other: Boxed::new(alloc, number(100))?,
-    };
+    let recovered = recover(alloc, Expr::Arg, 100)?;
     declare(alloc, &mut decls, fold(3, recovered))?;
     declare(alloc, &mut decls, Body::Changed { of: 2 })?;
     declare(alloc, &mut decls, Body::Either { left: 5, right: 1 })?;
@@ -119,18 +121,99 @@ fn faulty(alloc: Global) -> Result<Program, AllocError>
     Ok(Program { decls })
 }
 
+/// The fold's word and the quotient.
+fn quotient_sum(alloc: Global) -> Result<Expr, AllocError>
+    ensures { IfOk result (λ e. e ≡ quotient_sum) }
+{
+    binary(alloc, Op::Add, Expr::Own, quotient(alloc)?)
+}
+
+fn recover(alloc: Global, tried: Expr, other: u8) -> Result<Expr, AllocError>
+    ensures { IfOk result (λ e. e ≡ recover tried other) }
+{
+    Ok(Expr::Recover {
+        tried: Boxed::new(alloc, tried)?,
+        other: Boxed::new(alloc, number(other))?,
+    })
+}
+
+/// Two folds divide by an event's value, and one of them recovers.
+fn dividing(alloc: Global) -> Result<Program, AllocError>
+    ensures { IfOk result (λ p. p ≡ program_of dividing) }
+{
+    let mut decls = Seq::new(alloc);
+    declare(alloc, &mut decls, Body::Device)?;
+    declare(alloc, &mut decls, Body::Event { kind: Kind::Int })?;
+    declare(alloc, &mut decls, fold(1, quotient_sum(alloc)?))?;
+    let recovered = recover(alloc, quotient_sum(alloc)?, 100)?;
+    declare(alloc, &mut decls, fold(1, recovered))?;
+    Ok(Program { decls })
+}
+
+/// The changes of a var are counted.
+fn counting(alloc: Global) -> Result<Program, AllocError>
+    ensures { IfOk result (λ p. p ≡ program_of counting) }
+{
+    let mut decls = Seq::new(alloc);
+    declare(alloc, &mut decls, Body::Device)?;
+    declare(alloc, &mut decls, var())?;
+    declare(alloc, &mut decls, Body::Changed { of: 1 })?;
+    let count = binary(alloc, Op::Add, Expr::Own, number(1))?;
+    declare(alloc, &mut decls, fold(2, count))?;
+    Ok(Program { decls })
+}
+
+/// Where the event's value is 7 the fold's word or 50, else the sum of the fold's word and the quotient.
+fn recovering(alloc: Global) -> Result<Expr, AllocError>
+    ensures { IfOk result (λ e. e ≡ recovering) }
+{
+    let cond = binary(alloc, Op::Eq, Expr::Arg, number(7))?;
+    let yes = recover(alloc, Expr::Own, 50)?;
+    let no = quotient_sum(alloc)?;
+    Ok(Expr::If {
+        cond: Boxed::new(alloc, cond)?,
+        yes: Boxed::new(alloc, yes)?,
+        no: Boxed::new(alloc, no)?,
+    })
+}
+
+/// A fold takes what a filter lets through, its fault too, another one keeps a fault until its event's value is 7, and a
+/// signal adds the two.
+fn clearing(alloc: Global) -> Result<Program, AllocError>
+    ensures { IfOk result (λ p. p ≡ program_of clearing) }
+{
+    let mut decls = Seq::new(alloc);
+    declare(alloc, &mut decls, Body::Device)?;
+    declare(alloc, &mut decls, Body::Event { kind: Kind::Int })?;
+    let expr = binary(alloc, Op::Gt, quotient(alloc)?, number(2))?;
+    declare(alloc, &mut decls, Body::Filter { source: 1, expr })?;
+    declare(alloc, &mut decls, fold(2, Expr::Arg))?;
+    declare(alloc, &mut decls, fold(1, recovering(alloc)?))?;
+    let sum = binary(alloc, Op::Add, Expr::Name(3), Expr::Name(4))?;
+    declare(alloc, &mut decls, signal(sum))?;
+    Ok(Program { decls })
+}
+
 /// The programs by their places here.
-fn sample(alloc: Global, which: u8) -> Result<Program, AllocError>
+pub fn sample(alloc: Global, which: u8) -> Result<Program, AllocError>
     ensures { IfOk result (λ p. IsSample p) }
 {
     match which {
         0 => diamond(alloc),
-        _ => faulty(alloc),
+        1 => faulty(alloc),
+        2 => dividing(alloc),
+        3 => counting(alloc),
+        _ => clearing(alloc),
     }
 }
 
 /// A turn that sets a var or fires a source event of ints, where the id names one.
-fn turn_of(alloc: Global, p: &Program, id: u16, number: i64) -> Result<Option<Entry>, AllocError>
+pub fn turn_of(
+    alloc: Global,
+    p: &Program,
+    id: u16,
+    number: i64,
+) -> Result<Option<Entry>, AllocError>
     ensures { IfOk result (λ found. IfSome found (λ entry. IsEntryOf p.now entry)) }
 {
     let Some(decl) = p.decls.get(id as usize) else {
@@ -159,7 +242,7 @@ fn turn_of(alloc: Global, p: &Program, id: u16, number: i64) -> Result<Option<En
 }
 
 /// The state before any entry.
-fn started(alloc: Global, p: &Program) -> Result<State, AllocError>
+pub fn started(alloc: Global, p: &Program) -> Result<State, AllocError>
     requires { IsSample p.now }
     ensures words { IfOk result (λ s. length s.words.items ≡ count_by is_cell p.now.decls.items) }
     ensures rep { IfOk result (λ s. FitsShape (shape_of p.now) s.rep) }
@@ -179,7 +262,7 @@ type Case<'a> = (
     &'a [(u16, Word)],
 );
 
-fn are(puts: &Seq<Put>, words: &[(u16, Word)]) -> bool {
+pub fn are(puts: &Seq<Put>, words: &[(u16, Word)]) -> bool {
     puts.len() == words.len()
         && puts
             .as_slice()
@@ -279,7 +362,7 @@ fn turns_at_the_start(rt: HostRuntime) -> Result<(), Fail> {
         assert!(rt; are(&prepared.changes, changes), "changes of {number}");
         assert!(rt; are(&prepared.signals, signals), "signals of {number}");
         assert!(rt; are(&prepared.read, read), "read of {number}");
-        assert_eq!(rt; word, kept, "cached behind {number}");
+        assert_eq!(rt; word, kept, "cached after {number}");
         assert!(rt; matches!(prepared.entry, Entry::Turn(_)));
     }
     Ok(())

@@ -6,8 +6,7 @@ ghost use Rattle.re_terms.specs.Listed.{plain};
 ghost use Rattle.re_prop.specs.Touched.{is_put as is_put_for, is_same_pair as are_same, is_same_cell as has_same_content, is_same_content, touched as touched_by, touches as is_touched};
 
 use crate::bodies::{is_replicated, replicated_place};
-use crate::view::is_same;
-use re_terms::{Decl, Entry, Pair, Program, Put, RCell, RState, RepOp, Seq, State};
+use re_terms::{Decl, Entry, Pair, Program, Put, RCell, RState, RepOp, Seq, State, same_word};
 use std::alloc::{AllocError, Global};
 
 /// A word is put for an id.
@@ -28,7 +27,7 @@ fn is_operated(ops: &[RepOp], place: usize) -> bool
 fn is_same_pair(a: &Pair, b: &Pair) -> bool
     ensures { result ≡ are_same a.now b.now }
 {
-    is_same(a.element, b.element) && a.dot.device == b.dot.device && a.dot.number == b.dot.number
+    same_word(a.element, b.element) && a.dot.device == b.dot.device && a.dot.number == b.dot.number
 }
 
 /// Two lists of pairs are equal.
@@ -54,7 +53,7 @@ fn is_same_cell(a: &RCell, b: &RCell) -> bool
         (RCell::Counter(x), RCell::Counter(y)) => x.plus == y.plus && x.minus == y.minus,
         (RCell::Set(x), RCell::Set(y)) => are_same_pairs(x.as_slice(), y.as_slice()),
         (RCell::Register(x), RCell::Register(y)) => {
-            x.stamp == y.stamp && x.device == y.device && is_same(x.word, y.word)
+            x.stamp == y.stamp && x.device == y.device && same_word(x.word, y.word)
         }
         _ => false,
     }

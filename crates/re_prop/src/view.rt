@@ -6,7 +6,7 @@ ghost use Rattle.re_terms.specs.SignalWords.{no_word};
 ghost use Rattle.re_terms.specs.Views.{total as total_word, cell_word, cell_has};
 ghost use Rattle.re_terms.specs.WordOrder.{same_word};
 
-use re_terms::{Pair, RCell, Rows, Word};
+use re_terms::{Pair, RCell, Rows, Word, same_word};
 
 /// The word of what has none.
 pub const NO_WORD: Word = Word::Int(0);
@@ -16,20 +16,6 @@ pub fn word_in(words: &[Word], place: usize) -> Word
     ensures { result ≡ slice_index_or words.now place no_word }
 {
     words.get(place).copied().unwrap_or(NO_WORD)
-}
-
-/// Two words are the same word, a fault's code included.
-#[tactic(auto, unfolding(re_terms::specs::WordOrder::same_word))]
-pub fn is_same(a: Word, b: Word) -> bool
-    ensures { result ≡ same_word a b }
-{
-    match (a, b) {
-        (Word::Int(x), Word::Int(y)) => x == y,
-        (Word::Bool(x), Word::Bool(y)) => x == y,
-        (Word::Sym(x), Word::Sym(y)) => x == y,
-        (Word::Fault(x), Word::Fault(y)) => x == y,
-        _ => false,
-    }
 }
 
 /// The sum of 16 numbers, which needs more than 64 bits.
@@ -76,7 +62,7 @@ pub fn word_at(cells: &[RCell], place: usize) -> Word
 fn has(pairs: &[Pair], word: Word) -> bool
     ensures { result ≡ list_any (λ p. same_word p.element word) pairs.now }
 {
-    pairs.iter().any(|pair| is_same(pair.element, word))
+    pairs.iter().any(|pair| same_word(pair.element, word))
 }
 
 /// Whether the set at a place has the element.

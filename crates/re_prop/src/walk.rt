@@ -1,4 +1,4 @@
-//! What each form of declaration has behind an entry.
+//! What each form of declaration has after an entry.
 ghost use Rattle.std.specs.Prelude.{◌≡◌, ◌+◌, ◌≤◌, ◌<◌, true, false, map, Some, None, is_some, option_map, option_and_then, slice_get, slice_index_or};
 ghost use Rattle.std.specs.Option.{option_map_or};
 ghost use Rattle.re_terms.specs.Meaning.{meaning};
@@ -13,9 +13,9 @@ ghost use Rattle.re_prop.specs.Evaluated.{is_given_body};
 use crate::bodies::replicated_place;
 use crate::effects::Effects;
 use crate::names::Names;
-use crate::view::{NO_WORD, is_same, word_at, word_in};
+use crate::view::{NO_WORD, word_at, word_in};
 use re_eval::{Steps, eval};
-use re_terms::{Body, Decl, Entry, Expr, Program, Put, RState, State, Word};
+use re_terms::{Body, Decl, Entry, Expr, Program, Put, RState, State, Word, same_word};
 use std::sync::ledger::Ledger;
 
 /// The word that is put for an id, if any.
@@ -34,7 +34,7 @@ fn put_word(puts: &[Put], id: usize) -> Option<Word>
 fn change(old: Word, new: Word) -> Option<Word>
     ensures { result ≡ change_of old new }
 {
-    if is_same(old, new) {
+    if same_word(old, new) {
         return None;
     }
     Some(new)
@@ -77,7 +77,7 @@ pub struct Walk<'a> {
     pub program: &'a Program,
     pub state: &'a State,
     pub entry: &'a Entry,
-    /// The replicated state behind the entry, and the sizes of its sets; 0 for its other cells.
+    /// The replicated state after the entry, and the sizes of its sets; 0 for its other cells.
     pub after: &'a RState,
     pub sizes: &'a [u32],
     /// The words of all declarations before the entry.

@@ -10,7 +10,7 @@ use re_eval::Steps;
 use std::alloc::{AllocError, Global};
 use std::sync::ledger::Ledger;
 
-/// What each declaration has behind the entry. The steps rise by what is counted as evaluated.
+/// What each declaration has after the entry. The steps rise by what is counted as evaluated.
 ///
 /// The one refusal is want of memory.
 pub fn walk_all<L: Ledger>(
