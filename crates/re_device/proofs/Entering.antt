@@ -5,17 +5,19 @@ use Rattle.std.specs.List.{All, count_by}
 use Rattle.std.proofs.lemmas.Bool.{leb-false}
 use Rattle.std.proofs.lemmas.List.FromFn.{length-map-range_with_len}
 use Rattle.re_terms.specs.declared.word.Word.{Word}
+use Rattle.re_terms.specs.declared.entry.Entry.TheVariants as entry
 use Rattle.re_terms.specs.declared.entry.Put.{Put}
 use Rattle.re_terms.specs.declared.entry.Logged.{Logged}
 use Rattle.re_terms.specs.declared.entry.Turn.{Turn}
 use Rattle.re_terms.specs.declared.program.Program.{Program}
+use Rattle.re_terms.specs.declared.replicated.RState.{RState}
 use Rattle.re_terms.specs.Listed.{Listed, plain}
-use Rattle.re_terms.specs.Propagation.{Step, words_after, changes, signal_changes}
+use Rattle.re_terms.specs.Propagation.{Step, step_in, words_after, changes, signal_changes}
 use Rattle.re_terms.specs.Cells.{is_cell, cell_place}
 use Rattle.re_terms.specs.Worlds.{is_full}
 use Rattle.re_prop.specs.Caching.{put_at, put_all, cached_word, signal_words}
 use Rattle.re_prop.proofs.Putting.{put_changes, put_signals}
-use Rattle.re_device.specs.Device.{DeviceState, turn_step, turn_entry, after_turn}
+use Rattle.re_device.specs.Device.{DeviceState, rep_after, after_turn}
 use Rattle.re_device.specs.Placing.{at_each}
 use Rattle.re_device.proofs.Placed.{length-at_each, put_at-places, changes-declared, changes-placed, signal_changes-declared}
 
@@ -75,8 +77,9 @@ one_more before reserved after x r reserves room pushes =
     let some : 0 < reserved.spare = omega arith in
     ap (λ l. l.items) (of_ok r (room some) pushes) ∙ ap (λ l. l.items ++ x ∷ []) reserves
 
--- new words and one entry more are a device after the turn
-pub entered : (d : DeviceState) (t : Turn) (words : Listed Word) (entries : List Logged) → words ≡ plain (words_after d.program (turn_step d t)) → entries ≡ d.entries ++ turn_entry d t ∷ [] → record { program = d.program; device = d.device; state = record { words = words; rep = d.state.rep }; number = d.number + 1; entries = entries } ≡ after_turn d t
-entered d t words entries words_are entries_are =
-    ap (λ w. record { program = d.program; device = d.device; state = record { words = w; rep = d.state.rep }; number = d.number + 1; entries = entries }) words_are
-    ∙ ap (λ es. record { program = d.program; device = d.device; state = record { words = plain (words_after d.program (turn_step d t)); rep = d.state.rep }; number = d.number + 1; entries = es }) entries_are
+-- new words, the state after the operations and one entry more are a device after the turn
+pub entered : (d : DeviceState) (t : Turn) (after : RState) (words : Listed Word) (entries : List Logged) → after ≡ rep_after d t → words ≡ plain (words_after d.program (step_in d.state (entry.Turn t) after)) → entries ≡ d.entries ++ record { entry = entry.Turn t; changes = plain (changes d.program (step_in d.state (entry.Turn t) after)) } ∷ [] → record { program = d.program; device = d.device; state = record { words = words; rep = after }; number = d.number + 1; entries = entries } ≡ after_turn d t
+entered d t after words entries after_is words_are entries_are =
+    ap (λ w. record { program = d.program; device = d.device; state = record { words = w; rep = after }; number = d.number + 1; entries = entries }) words_are
+    ∙ ap (λ es. record { program = d.program; device = d.device; state = record { words = plain (words_after d.program (step_in d.state (entry.Turn t) after)); rep = after }; number = d.number + 1; entries = es }) entries_are
+    ∙ ap (λ (r : RState). record { program = d.program; device = d.device; state = record { words = plain (words_after d.program (step_in d.state (entry.Turn t) r)); rep = r }; number = d.number + 1; entries = d.entries ++ record { entry = entry.Turn t; changes = plain (changes d.program (step_in d.state (entry.Turn t) r)) } ∷ [] }) after_is

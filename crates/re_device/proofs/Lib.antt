@@ -2,4 +2,5 @@ pub mod Entering
 pub mod Placed
 pub mod Reading
 pub mod Samples
+pub mod SetPlaces
 pub mod Starting

@@ -15,6 +15,7 @@ pub record IsKept (d : Inside) : Type 0 where
   pub is_program : IsProgram d.program
   pub graph : d.graph ≡ graph_of d.program.decls.items
   pub places : d.places ≡ places_of d.program.decls.items
+  pub shape : d.shape ≡ shape_of d.program
   pub device : d.device < device_count d.program.decls.items
   -- each var and each fold has a word, and nothing is reserved in the list of words
   pub words : length d.state.words.items ≡ count_by is_cell d.program.decls.items

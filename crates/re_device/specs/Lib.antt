@@ -2,3 +2,4 @@ pub mod Device
 pub mod Placing
 pub mod Sample
 pub mod Keeping
+pub mod Refusals

@@ -1,6 +1,6 @@
 -- Where the words of vars and folds and the replicated cells stand in a state.
 -- Read against: `device a; var x: int = 1; counter c; signal s = x + c; var y: int = 2; counter d;` has the places 0, 0, 1, 1, 1, 2 of words,
--- and 0, 0, 0, 1, 1, 1 of replicated cells: y's word stands behind x's, and d's cell behind c's.
+-- and 0, 0, 0, 1, 1, 1 of replicated cells: y's word stands after x's, and d's cell after c's.
 use Rattle.std.specs.Prelude.{ℕ, List, length, map, count_by}
 use Rattle.std.specs.List.{range_with_len}
 use Rattle.re_terms.specs.Listed.{plain}

@@ -17,7 +17,7 @@ use Rattle.re_terms.specs.declared.program.Program.{Program}
 abbrev pub named : ℕ → Body → Decl
 named letter b = record { name = plain (letter ∷ []); body = b }
 
--- declarations named by one letter behind the other
+-- declarations named by one letter after the other
 abbrev pub lettered : ℕ → List Body → List Decl
 lettered letter [] = []
 lettered letter (b ∷ bodies) = named letter b ∷ lettered (letter + 1) bodies

@@ -1,25 +1,33 @@
 //! A device without a store.
-ghost use Rattle.std.specs.Prelude.{◌≡◌, ◌+◌, ◌<◌, [], length, slice_index, IfOk, OnOk, OnErr, true, false};
+ghost use Rattle.std.specs.Prelude.{◌≡◌, ◌+◌, ◌<◌, ◌↔◌, length, slice_get, slice_index, IfOk, OnOk, OnErr, true, false, None, Some};
 ghost use Rattle.std.specs.List.{All};
+ghost use Rattle.std.specs.List.Sorted.{IsStrictlySortedBy};
 ghost use Rattle.re_terms.specs.Admission.{IsAdmitted, IsEntryOf, device_count};
 ghost use Rattle.re_terms.specs.Dependencies.{graph_of};
+ghost use Rattle.re_terms.specs.declared.replicated.RCell.TheVariants as cell;
+ghost use Rattle.re_terms.specs.Limits.{OperationFault.CounterFull, OperationFault.DotsSpent, OperationFault.SetFull};
 ghost use Rattle.re_terms.specs.Listed.{plain};
 ghost use Rattle.re_terms.specs.Programs.{IsProgram};
 ghost use Rattle.re_terms.specs.Propagation.{changes, signal_changes, step_in};
-ghost use Rattle.re_terms.specs.SignalWords.{signal_word};
+ghost use Rattle.re_terms.specs.Shapes.{FitsShape, shape_of};
+ghost use Rattle.re_terms.specs.SignalWords.{replicated_place, signal_word};
 ghost use Rattle.re_terms.specs.Views.{view_of};
-ghost use Rattle.re_terms.specs.Worlds.{is_full};
+ghost use Rattle.re_terms.specs.WordOrder.{pair_cmp};
+ghost use Rattle.re_terms.specs.Worlds.{is_full, is_set_at};
 ghost use Rattle.re_prop.specs.Caching.{put_at};
-ghost use Rattle.re_device.specs.Device.{started, told_of, after_turn};
+ghost use Rattle.re_device.specs.Device.{started, told_of, after_turn, turn_fault};
 
 use crate::fault::{DeviceFault, Done};
+use crate::operations::{newest, operated, put_rep};
 use crate::places::Places;
 use re_eval::Steps;
 use re_graph::Graph;
 use re_prop::sizes::size_at;
 use re_prop::view::{NO_WORD, has_at, word_at, word_in};
 use re_prop::{Cache, Prepared, propagate};
-use re_terms::{Admitted, Body, Entry, Logged, Program, Put, Seq, State, Word};
+use re_terms::{
+    Admitted, Body, Entry, Logged, Pair, Program, Put, RCell, RState, Seq, Shape, State, Word,
+};
 use std::alloc::{AllocError, Global};
 use std::marker::Model;
 use std::sync::ledger::Ledger;
@@ -32,13 +40,14 @@ const GREATEST: u64 = (1 << 48) - 1;
 
 /// One device of a program: its state, and the entries that it took since it was started.
 ///
-/// Beside these it keeps what can be worked out from them and from the program: the dependency graph, the words of the
-/// signals, and the places of the cells.
+/// Beside these it keeps what can be worked out from them and from the program: the dependency graph, the shape of the
+/// replicated state, the places of the cells, and the words of the signals.
 #[derive(Drop)]
 pub struct Device {
     alloc: Global,
     program: Program,
     graph: Graph,
+    shape: Shape,
     places: Places,
     device: u8,
     state: State,
@@ -65,6 +74,8 @@ impl Model for Device {
 
 impl Device {
     /// The device with this place among the program's devices, before any entry. The one refusal is want of memory.
+    ///
+    /// The conditions are that the graph is the program's, and that the program has the device.
     pub fn start(alloc: Global, p: Program, g: Graph, device: u8) -> Result<Device, AllocError>
         requires is_program { IsProgram p }
         requires graph { g ≡ graph_of p.decls.items }
@@ -73,11 +84,13 @@ impl Device {
     {
         let state = State::start(alloc, &p)?;
         let cache = Cache::fill(alloc, &p, &state)?;
+        let shape = Shape::of(alloc, &p)?;
         let places = Places::of(alloc, &p)?;
         Ok(Device {
             alloc,
             program: p,
             graph: g,
+            shape,
             places,
             device,
             state,
@@ -86,6 +99,7 @@ impl Device {
             entries: Seq::new(alloc),
         })
     }
+
     /// Whether it takes no more entries.
     fn is_full(&self) -> bool
         ensures { result ≡ is_full (length self.now.entries) self.now.number }
@@ -93,36 +107,51 @@ impl Device {
         self.entries.len() >= ENTRIES || self.number >= GREATEST
     }
 
-    /// Takes a turn that the program allows, as one entry.
+    /// Takes a turn that the program allows, as one entry. Its operations are done in listed order, each with the device's
+    /// next dot.
     ///
-    /// `Full` comes exactly where the device took 4,096 entries already or its last entry has the number 2^48 - 1. All
-    /// memory is taken before anything changes, so a refused turn changes nothing.
+    /// `Full` comes exactly where the device took 4,096 entries already or its last entry has the number 2^48 - 1. After
+    /// it the first operation that is refused decides, in the state after those before it: `DotsSpent` where its dot would
+    /// have the number 2^48 or its write the stamp 2^52, else `SetFull` where all sets together would have more than 1,024
+    /// pairs, else `CounterFull` where the device's total would pass 2^63 - 1.
+    ///
+    /// All memory is taken before anything changes, so a refused turn changes nothing.
     pub fn turn<L: Ledger>(
         &mut self,
         turn: Admitted,
         steps: &mut Steps<L>,
     ) -> Result<Done, DeviceFault>
-        requires admitted { IsAdmitted self.old.program turn.turn }
-        requires operations { turn.turn.ops.items ≡ [] }
+        requires { IsAdmitted self.old.program turn.turn }
         ensures state { OnOk result (self.new ≡ after_turn self.old turn.turn) }
         ensures number { IfOk result (λ done. done.number ≡ self.old.number + 1) }
         ensures evaluated { IfOk result (λ done. steps.new ≡ steps.old + done.evaluated) }
-        ensures full { result ≡ Err DeviceFault.Full → is_full (length self.old.entries) self.old.number ≡ true }
-        ensures room { OnOk result (is_full (length self.old.entries) self.old.number ≡ false) }
+        ensures full { (result ≡ Err DeviceFault.Full) ↔ (is_full (length self.old.entries) self.old.number ≡ true) }
+        ensures limits { OnOk result (turn_fault self.old turn.turn ≡ None) }
+        ensures set_full { result ≡ Err DeviceFault.SetFull → (is_full (length self.old.entries) self.old.number ≡ false) × (turn_fault self.old turn.turn ≡ Some SetFull) }
+        ensures counter_full { result ≡ Err DeviceFault.CounterFull → (is_full (length self.old.entries) self.old.number ≡ false) × (turn_fault self.old turn.turn ≡ Some CounterFull) }
+        ensures dots_spent { result ≡ Err DeviceFault.DotsSpent → (is_full (length self.old.entries) self.old.number ≡ false) × (turn_fault self.old turn.turn ≡ Some DotsSpent) }
         ensures refused { OnErr result (self.new ≡ self.old) }
     {
         if self.is_full() {
             return Err(DeviceFault::Full);
         }
         self.entries.reserve(1)?;
+        let after = operated(
+            self.alloc,
+            &self.shape,
+            self.device,
+            &self.state.rep,
+            turn.turn.ops.as_slice(),
+        )?;
         let entry = Entry::Turn(turn.turn);
-        let prepared = self.plan(&entry, steps)?;
+        let prepared = self.plan(&entry, newest(&after, &self.state.rep), steps)?;
         put_words(
             &mut self.state.words,
             self.places.words.as_slice(),
             prepared.changes.as_slice(),
         );
         self.cache.put(&prepared.signals);
+        put_rep(&mut self.state.rep, after);
         self.number += 1;
         let changes = prepared.changes;
         let logged = Logged {
@@ -152,6 +181,21 @@ impl Device {
             }
             Body::Signal { .. } => self.cache.word(id),
             _ => NO_WORD,
+        }
+    }
+
+    /// The pairs of a set, which ascend strictly by element, device and number. It takes no memory.
+    ///
+    /// The condition is that the id is a set's.
+    pub fn pairs(&self, id: u16) -> &Seq<Pair>
+        requires { is_set_at self.now.program.decls.items id ≡ true }
+        ensures shown { slice_get self.now.state.rep.cells.items (replicated_place self.now.program.decls.items id) ≡ Some (cell.Set result.now) }
+        ensures ascend { IsStrictlySortedBy pair_cmp result.now.items }
+    {
+        let cells = self.state.rep.cells.as_slice();
+        match &cells[self.places.replicated(id)] {
+            RCell::Set(pairs) => pairs,
+            _ => unreachable!(),
         }
     }
 
@@ -187,6 +231,7 @@ impl Device {
         &self.entries
     }
 
+    /// The program that it runs.
     pub fn program(&self) -> &Program
         ensures { result.now ≡ self.now.program }
     {
@@ -200,23 +245,28 @@ impl Device {
         &self.graph
     }
 
-    /// What an entry that leaves the replicated cells changes. The one refusal is want of memory.
-    fn plan<L: Ledger>(&self, entry: &Entry, steps: &mut Steps<L>) -> Result<Prepared, AllocError>
-        requires { IsEntryOf self.now.program entry.now }
+    /// What an entry changes, where the replicated state is `after` after it. The one refusal is want of memory.
+    fn plan<L: Ledger>(
+        &self,
+        entry: &Entry,
+        after: &RState,
+        steps: &mut Steps<L>,
+    ) -> Result<Prepared, AllocError>
+        requires entry { IsEntryOf self.now.program entry.now }
+        requires after { FitsShape (shape_of self.now.program) after.now }
         ensures entry { IfOk result (λ prepared. prepared.entry ≡ entry.now) }
-        ensures changes { IfOk result (λ prepared. prepared.changes ≡ plain (changes self.now.program (step_in self.now.state entry.now self.now.state.rep))) }
-        ensures signals { IfOk result (λ prepared. prepared.signals ≡ plain (signal_changes self.now.program (step_in self.now.state entry.now self.now.state.rep))) }
+        ensures changes { IfOk result (λ prepared. prepared.changes ≡ plain (changes self.now.program (step_in self.now.state entry.now after.now))) }
+        ensures signals { IfOk result (λ prepared. prepared.signals ≡ plain (signal_changes self.now.program (step_in self.now.state entry.now after.now))) }
         ensures evaluated { IfOk result (λ prepared. steps.new ≡ steps.old + prepared.evaluated) }
     {
-        let state = &self.state;
         propagate(
             self.alloc,
             &self.program,
             &self.graph,
             &self.cache,
-            state,
+            &self.state,
             entry,
-            &state.rep,
+            after,
             steps,
         )
     }

@@ -4,6 +4,7 @@
 mod device;
 mod env;
 mod fault;
+mod operations;
 mod places;
 #[cfg(test)]
 mod tests;

@@ -65,7 +65,7 @@ impl Places {
         self.words.as_slice()[id as usize] as usize
     }
 
-    /// The place of a replicated cell in a state; behind the last for an id that isn't declared.
+    /// The place of a replicated cell in a state; past the last one for an id that isn't declared.
     pub fn replicated(&self, id: u16) -> usize
         ensures { result ≡ slice_index_or self.now.replicated.items id self.now.replicated_count }
     {

@@ -14,7 +14,7 @@ use std::marker::Brand;
 use std::sync::ledger::{Blank, Ledger};
 use std::test::Fail;
 
-/// Declares a body behind the others, by the next letter.
+/// Declares a body after the others, by the next letter.
 fn declare(alloc: Global, decls: &mut Seq<Decl>, body: Body) -> Result<(), AllocError>
     requires { length decls.old.items < 26 }
     ensures { OnOk result (decls.new ≡ record { items = decls.old.items ++ named (97 + length decls.old.items) body ∷ []; spare = decls.old.spare - 1 }) }
@@ -199,7 +199,7 @@ fn has_words(device: &Device, words: &[(u16, Word)]) -> bool {
     words.iter().all(|(id, word)| device.word(*id) == *word && Env::word(env, *id) == *word)
 }
 
-/// Whether a program's turns are taken one behind the other, and then the ids have these words.
+/// Whether a program's turns are taken one after the other, and then the ids have these words.
 fn runs<L: Ledger>(
     blank: Blank,
     alloc: Global,

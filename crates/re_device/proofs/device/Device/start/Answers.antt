@@ -17,6 +17,7 @@ invariant_of-result c = record {
   is_program = c.requires.is_program;
   graph = c.requires.graph;
   places = c.in_ok-places.ensures;
+  shape = c.in_ok-shape.ensures.of;
   device = c.requires.device;
   words = ap (λ (s : State). length s.words.items) c.in_ok-state.ensures ∙ length-start_words c.args.p.decls.items;
   plain = ap (λ (s : State). s.words.spare) c.in_ok-state.ensures;
