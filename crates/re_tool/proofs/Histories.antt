@@ -1,22 +1,22 @@
 -- The entries that lines make.
-use Rattle.std.proofs.Common.{ℕ, ◌≡◌, Bool, true, false, List, [], ◌∷◌, ◌++◌, length, Some, None, Ok, Err, refl, sym, ap, ◌∙◌, append_assoc}
+use Rattle.std.proofs.Common.{ℕ, ◌≡◌, List, [], ◌∷◌, ◌++◌, Option, Some, None, Ok, Err, refl, sym, ap, ◌∙◌, append_assoc}
 use Rattle.std.proofs.lemmas.List.{append-nil}
 use Rattle.re_terms.specs.declared.command.Command.{Command}
 use Rattle.re_terms.specs.declared.command.Command.TheVariants as command
 use Rattle.re_terms.specs.declared.entry.Admitted.{Admitted}
 use Rattle.re_terms.specs.declared.program.Program.{Program}
-use Rattle.re_terms.specs.Worlds.{World, Outcome, Fine, Memory, last_number, is_full, reply, world_after}
+use Rattle.re_terms.specs.Worlds.{World, Outcome, Fine, Memory, reply, turn_refusal, world_after}
 use Rattle.re_commands.specs.Commanding.{commanded}
 use Rattle.re_tool.specs.Answers.{Reading, first, others, line_answer, line_after, lines_after}
 use Rattle.re_tool.specs.Histories.{entered, taken}
 
-turn_entered : (p : Program) (w : World) (device : ℕ) (t : Admitted) (b : Bool) → is_full (length w.settled) (last_number w) ≡ b → (world_after p w (command.Turn device t) Fine).settled ≡ w.settled ++ entered (Ok (Some (command.Turn device t))) (Some (reply p w (command.Turn device t) Fine))
-turn_entered p w device t true h = rw h (sym (append-nil w.settled))
-turn_entered p w device t false h = rw h refl
+turn_entered : (p : Program) (w : World) (device : ℕ) (t : Admitted) (refusal : Option ℕ) → turn_refusal p w t ≡ refusal → (world_after p w (command.Turn device t) Fine).settled ≡ w.settled ++ entered (Ok (Some (command.Turn device t))) (Some (reply p w (command.Turn device t) Fine))
+turn_entered p w device t (Some code) h = rw h (sym (append-nil w.settled))
+turn_entered p w device t None h = rw h refl
 
 -- a line settles its entry, where it makes one
 command_entered : (p : Program) (w : World) (c : Command) (o : Outcome) → (world_after p w c o).settled ≡ w.settled ++ entered (Ok (Some c)) (Some (reply p w c o))
-command_entered p w (command.Turn device t) Fine = turn_entered p w device t (is_full (length w.settled) (last_number w)) refl
+command_entered p w (command.Turn device t) Fine = turn_entered p w device t (turn_refusal p w t) refl
 command_entered p w (command.Turn device t) Memory = sym (append-nil w.settled)
 command_entered p w (command.Lazy device t) Fine = sym (append-nil w.settled)
 command_entered p w (command.Lazy device t) Memory = sym (append-nil w.settled)
@@ -52,11 +52,11 @@ settled-taken p w (l ∷ lines) os =
     ∙ append_assoc w.settled (entered reading (line_answer p w reading o)) (taken p (line_after p w reading o) lines (others os))
 
 command_base : (p : Program) (w : World) (c : Command) (o : Outcome) → (world_after p w c o).base ≡ w.base
-command_base p w (command.Turn device t) Fine = by (is_full (length w.settled) (last_number w)) refl
+command_base p w (command.Turn device t) Fine = by (turn_refusal p w t) refl
   where
-    by : (b : Bool) → is_full (length w.settled) (last_number w) ≡ b → (world_after p w (command.Turn device t) Fine).base ≡ w.base
-    by true h = rw h refl
-    by false h = rw h refl
+    by : (refusal : Option ℕ) → turn_refusal p w t ≡ refusal → (world_after p w (command.Turn device t) Fine).base ≡ w.base
+    by (Some code) h = rw h refl
+    by None h = rw h refl
 command_base p w (command.Turn device t) Memory = refl
 command_base p w (command.Lazy device t) o = refl
 command_base p w (command.Settle device) o = refl

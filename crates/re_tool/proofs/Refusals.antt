@@ -1,11 +1,14 @@
 -- Which lines are refused, and which have no answer.
-use Rattle.std.proofs.Common.{◌≡◌, ◌≤◌, ℕ, Bool, true, false, arith, length, Some, None, Ok, Err, refl, sym, ap, ◌∙◌}
-use Rattle.std.specs.Prelude.{if◌then◌else◌, ◌==◌}
+use Rattle.std.proofs.Common.{◌≡◌, ◌+◌, ◌≤◌, ℕ, Bool, true, false, arith, length, Option, Some, None, Ok, Err, refl, sym, ap, ◌∙◌, subst}
+use Rattle.std.specs.Prelude.{if◌then◌else◌, ◌==◌, option_map}
 use Rattle.re_terms.specs.declared.command.Command.{Command}
 use Rattle.re_terms.specs.declared.command.Command.TheVariants as command
 use Rattle.re_terms.specs.declared.entry.Admitted.{Admitted}
 use Rattle.re_terms.specs.declared.program.Program.{Program}
-use Rattle.re_terms.specs.Worlds.{World, Outcome, Fine, Memory, PlainAnswer, Refused, is_full, last_number, reply}
+use Rattle.re_terms.specs.Limits.{OperationFault, DotsSpent, SetFull, CounterFull, updates_fault}
+use Rattle.re_terms.specs.Runs.{PlainState}
+use Rattle.re_terms.specs.Shapes.{shape_of}
+use Rattle.re_terms.specs.Worlds.{World, Outcome, Fine, Memory, PlainAnswer, Entered, Refused, is_full, is_set_at, last_number, limit_code, reply, shown, turn_refusal, world_state}
 use Rattle.re_commands.specs.declared.fault.CommandFault.{CommandFault}
 use Rattle.re_commands.specs.declared.fault.CommandFault.TheVariants as fault
 use Rattle.re_tool.specs.Answers.{Reading, fault_code, line_answer}
@@ -18,9 +21,36 @@ code_in answer = 0
 same_code : (a b : ℕ) → Refused a ≡ Refused b → a ≡ b
 same_code a b h = cc
 
-full_code : (p : Program) (w : World) (device : ℕ) (t : Admitted) (code : ℕ) (b : Bool) → code ≤ 25 → is_full (length w.settled) (last_number w) ≡ b → reply p w (command.Turn device t) Fine ≡ Refused code → ⊥
-full_code p w device t code true few is h = let e : Refused 29 ≡ Refused code = rw is at h in absurd (omega (arith, same_code 29 code e, few))
-full_code p w device t code false few is h = let e = rw is at h in absurd (cc)
+-- a refused turn has the code 29, 30, 31 or 32
+limit_from : (f : OperationFault) → 29 ≤ limit_code f
+limit_from SetFull = omega arith
+limit_from CounterFull = omega arith
+limit_from DotsSpent = omega arith
+
+limit_to : (f : OperationFault) → limit_code f ≤ 32
+limit_to SetFull = omega arith
+limit_to CounterFull = omega arith
+limit_to DotsSpent = omega arith
+
+refusal_codes : (p : Program) (w : World) (t : Admitted) (code : ℕ) → turn_refusal p w t ≡ Some code → (29 ≤ code) × (code ≤ 32)
+refusal_codes p w t code h = by_full (is_full (length w.settled) (last_number w)) refl
+  where
+    by_fault : (o : Option OperationFault) → option_map limit_code o ≡ Some code → (29 ≤ code) × (code ≤ 32)
+    by_fault None e = absurd (cc)
+    by_fault (Some f) e = let same : limit_code f ≡ code = cc in (subst (λ n. 29 ≤ n) same (limit_from f), subst (λ n. n ≤ 32) same (limit_to f))
+
+    by_full : (b : Bool) → is_full (length w.settled) (last_number w) ≡ b → (29 ≤ code) × (code ≤ 32)
+    by_full true is = let e : Some 29 ≡ Some code = rw is at h in let same : 29 ≡ code = cc in (omega arith, omega arith)
+    by_full false is = let e : option_map limit_code (updates_fault (shape_of p) 0 t.turn.ops.items (world_state p w).taken) ≡ Some code = rw is at h in by_fault _ e
+
+turn_code : (p : Program) (w : World) (device : ℕ) (t : Admitted) (code : ℕ) (refusal : Option ℕ) → turn_refusal p w t ≡ refusal → reply p w (command.Turn device t) Fine ≡ Refused code → (29 ≤ code) × (code ≤ 32)
+turn_code p w device t code (Some found) is h = let e : Refused found ≡ Refused code = rw is at h in refusal_codes p w t code (is ∙ ap Some (same_code found code e))
+turn_code p w device t code None is h = let e : Entered (last_number w + 1) ≡ Refused code = rw is at h in absurd (cc)
+
+-- a get is no refusal
+get_code : (p : Program) (s : PlainState) (id code : ℕ) (b : Bool) → is_set_at p.decls.items id ≡ b → shown p s id ≡ Refused code → ⊥
+get_code p s id code true is h = let e = rw is at h in absurd (cc)
+get_code p s id code false is h = let e = rw is at h in absurd (cc)
 
 not_built_code : (code : ℕ) → 20 ≤ code → Refused 19 ≡ Refused code → ⊥
 not_built_code code many h = absurd (omega (arith, same_code 19 code h, many))
@@ -28,10 +58,10 @@ not_built_code code many h = absurd (omega (arith, same_code 19 code h, many))
 -- a command is refused with none of the codes 20 to 25
 reply_code : (p : Program) (w : World) (c : Command) (o : Outcome) (code : ℕ) → 20 ≤ code → code ≤ 25 → reply p w c o ≡ Refused code → ⊥
 reply_code p w c Memory code many few h = absurd (omega (arith, same_code 36 code h, few))
-reply_code p w (command.Turn device t) Fine code many few h = full_code p w device t code (is_full (length w.settled) (last_number w)) few refl h
+reply_code p w (command.Turn device t) Fine code many few h = let codes = turn_code p w device t code (turn_refusal p w t) refl h in absurd (omega (arith, codes.0, few))
 reply_code p w (command.Lazy device t) Fine code many few h = not_built_code code many h
 reply_code p w (command.Settle device) Fine code many few h = not_built_code code many h
-reply_code p w (command.Get device id) Fine code many few h = absurd (cc)
+reply_code p w (command.Get device id) Fine code many few h = get_code p (world_state p w) id code (is_set_at p.decls.items id) refl h
 reply_code p w (command.Send device) Fine code many few h = not_built_code code many h
 reply_code p w (command.Deliver packet device) Fine code many few h = not_built_code code many h
 reply_code p w (command.Hex packet) Fine code many few h = not_built_code code many h
@@ -40,14 +70,10 @@ reply_code p w (command.Restart device) Fine code many few h = not_built_code co
 
 -- no command is refused with the code 36 where memory was there
 reply_memory : (p : Program) (w : World) (c : Command) → reply p w c Fine ≡ Refused 36 → ⊥
-reply_memory p w (command.Turn device t) h = full_memory (is_full (length w.settled) (last_number w)) refl
-  where
-    full_memory : (b : Bool) → is_full (length w.settled) (last_number w) ≡ b → ⊥
-    full_memory true is = let e : Refused 29 ≡ Refused 36 = rw is at h in absurd (omega (arith, same_code 29 36 e))
-    full_memory false is = let e = rw is at h in absurd (cc)
+reply_memory p w (command.Turn device t) h = let codes = turn_code p w device t 36 (turn_refusal p w t) refl h in absurd (omega (arith, codes.1))
 reply_memory p w (command.Lazy device t) h = absurd (omega (arith, same_code 19 36 h))
 reply_memory p w (command.Settle device) h = absurd (omega (arith, same_code 19 36 h))
-reply_memory p w (command.Get device id) h = absurd (cc)
+reply_memory p w (command.Get device id) h = get_code p (world_state p w) id 36 (is_set_at p.decls.items id) refl h
 reply_memory p w (command.Send device) h = absurd (omega (arith, same_code 19 36 h))
 reply_memory p w (command.Deliver packet device) h = absurd (omega (arith, same_code 19 36 h))
 reply_memory p w (command.Hex packet) h = absurd (omega (arith, same_code 19 36 h))

@@ -1,6 +1,7 @@
 -- The words of vars, by the entries that set them.
 use Rattle.std.proofs.Common.{ℕ, zero, suc, ◌≡◌, ◌+◌, cond, Bool, true, false, List, [], ◌∷◌, length, take, Some, None, unwrap_or, refl, sym, ap, ◌∙◌, zero-add, arith}
 use Rattle.std.specs.Prelude.{slice_get, slice_index_or}
+use Rattle.std.specs.Option.{option_map_or}
 use Rattle.std.proofs.lemmas.List.Sums.{sum_by-cons}
 use Rattle.std.proofs.lemmas.Option.{slice_get_within}
 use Rattle.re_terms.specs.declared.entry.Put.{Put}
@@ -12,11 +13,13 @@ use Rattle.re_terms.specs.declared.word.Kind.{Kind}
 use Rattle.re_terms.specs.declared.word.Word.{Word}
 use Rattle.re_terms.specs.Cells.{is_cell, is_cell_body, cell_place}
 use Rattle.re_terms.specs.Dependencies.{below}
-use Rattle.re_terms.specs.Propagation.{Step, effect, place_effect, no_effect, put_word}
-use Rattle.re_terms.specs.Runs.{PlainState, PlainEntry, Turn, plain_start, step_of, entry_after, run_entries, start_view}
+use Rattle.re_terms.specs.Propagation.{Step, effect, place_effect, no_effect, put_word, words_after}
+use Rattle.re_terms.specs.Runs.{PlainState, PlainEntry, Turn, plain_start, plain_view, step_of, entry_after, run_entries}
 use Rattle.re_terms.specs.Shapes.{start_word, start_words}
 use Rattle.re_terms.specs.SignalWords.{no_word, signal_word, place_word}
 use Rattle.re_terms.specs.Views.{View}
+use Rattle.re_terms.specs.Worlds.{Value, is_set_at, is_set_body, shown}
+use Rattle.re_terms.specs.declared.replicated.RepOp.{RepOp}
 use Rattle.re_graph.proofs.Own.{below-own}
 use Rattle.re_prop.proofs.Outcomes.{effect_word}
 use Rattle.re_tool.specs.Histories.{last_set}
@@ -36,21 +39,6 @@ set_word p s id d kind start region at is =
     let own = below-own no_effect (place_effect p s) (length p.decls.items) id (slice_get_within p.decls.items id d at) in
     let here : (place_effect p s id (below no_effect (place_effect p s) id)).word ≡ unwrap_or (put_word s.sets id) (slice_index_or s.words (cell_place p.decls.items id) no_word) = rw (at, is) refl in
     ap (λ e. e.word) own ∙ here
-
-module _ (p : Program) (id : ℕ) (d : Decl) (kind : Kind) (start : Word) (region : ℕ) (at : slice_get p.decls.items id ≡ Some d) (is : d.body ≡ body.Var kind start region) where
-  word_in : List Word → Word
-  word_in words = signal_word p words (start_view p) id
-
-  one_entry : (s : PlainState) (sets fires : List Put) → signal_word p (entry_after p s (Turn sets fires)).words (start_view p) id ≡ unwrap_or (put_word sets id) (signal_word p s.words (start_view p) id)
-  one_entry s sets fires =
-      let step = step_of p s.words sets fires in
-      sym (effect_word p step id) ∙ set_word p step id d kind start region at is
-      ∙ ap (unwrap_or (put_word sets id)) (sym (var_word p s.words (start_view p) id d kind start region at is))
-
-  -- the word behind the entries is that of the last that sets the var
-  pub run_word : (s : PlainState) (entries : List PlainEntry) → signal_word p (run_entries p s entries).words (start_view p) id ≡ last_set entries id (signal_word p s.words (start_view p) id)
-  run_word s [] = refl
-  run_word s (Turn sets fires ∷ entries) = run_word (entry_after p s (Turn sets fires)) entries ∙ ap (last_set entries id) (one_entry s sets fires)
 
 -- ---- start words
 
@@ -104,7 +92,31 @@ start_at (x ∷ decls) zero d w at is =
     rw e refl
 start_at (x ∷ decls) (suc id) d w at is = start_past x decls id w (is_cell x) refl (start_at decls id d w at is)
 
--- a var begins with its start word
-pub start_says : (p : Program) (id : ℕ) (d : Decl) (kind : Kind) (start : Word) (region : ℕ) → slice_get p.decls.items id ≡ Some d → d.body ≡ body.Var kind start region → signal_word p (plain_start p).words (start_view p) id ≡ start
-start_says p id d kind start region at is =
-    var_word p (start_words p.decls.items) (start_view p) id d kind start region at is ∙ start_at p.decls.items id d start at (ap start_word is)
+-- ---- the words of entries
+
+-- what `get` shows of a name that is no set
+pub shown_value : (p : Program) (s : PlainState) (id : ℕ) (d : Decl) → slice_get p.decls.items id ≡ Some d → is_set_body d.body ≡ false → shown p s id ≡ Value (signal_word p s.words (plain_view p s) id)
+shown_value p s id d at h = let e : is_set_at p.decls.items id ≡ false = ap (λ o. option_map_or (λ (x : Decl). is_set_body x.body) o false) at ∙ h in rw e refl
+
+module _ (p : Program) (id : ℕ) (d : Decl) (kind : Kind) (start : Word) (region : ℕ) (at : slice_get p.decls.items id ≡ Some d) (is : d.body ≡ body.Var kind start region) where
+  kept : List Word → Word
+  kept words = slice_index_or words (cell_place p.decls.items id) no_word
+
+  one_entry : (device : ℕ) (s : PlainState) (sets fires : List Put) (operations : List RepOp) → kept (entry_after p device s (Turn sets fires operations)).words ≡ unwrap_or (put_word sets id) (kept s.words)
+  unfolding kept
+  one_entry device s sets fires operations =
+      let step = step_of p device s sets fires operations in
+      sym (var_word p (words_after p step) step.new_view id d kind start region at is)
+      ∙ sym (effect_word p step id) ∙ set_word p step id d kind start region at is
+
+  run_kept : (device : ℕ) (s : PlainState) (entries : List PlainEntry) → kept (run_entries p device s entries).words ≡ last_set entries id (kept s.words)
+  run_kept device s [] = refl
+  run_kept device s (Turn sets fires operations ∷ entries) = run_kept device (entry_after p device s (Turn sets fires operations)) entries ∙ ap (last_set entries id) (one_entry device s sets fires operations)
+
+  -- the word after the entries is that of the last that sets the var, and its start word where none does
+  pub run_word : (device : ℕ) (entries : List PlainEntry) (view : View) → signal_word p (run_entries p device (plain_start p) entries).words view id ≡ last_set entries id start
+  unfolding kept
+  run_word device entries view =
+      var_word p (run_entries p device (plain_start p) entries).words view id d kind start region at is
+      ∙ run_kept device (plain_start p) entries
+      ∙ ap (last_set entries id) (start_at p.decls.items id d start at (ap start_word is))

@@ -3,17 +3,20 @@ use Rattle.std.specs.Prelude.{ℕ, ◌≡◌, length}
 use Rattle.re_terms.specs.declared.command.Answer.{Answer}
 use Rattle.re_terms.specs.declared.command.Command.{Command}
 use Rattle.re_terms.specs.declared.program.Program.{Program}
-use Rattle.re_terms.specs.Shapes.{shape_of, start_replicated}
+use Rattle.re_terms.specs.Runs.{StandsForPlain}
+use Rattle.re_terms.specs.TakenIn.{IsTakenIn}
 use Rattle.re_terms.specs.Worlds.{World, Outcome, world_state, last_number, plain_answer, reply, world_after}
 use Rattle.re_device.specs.Device.{DeviceState}
 use Rattle.re_device.specs.declared.fault.DeviceFault.{DeviceFault}
 use Rattle.re_device.specs.declared.fault.DeviceFault.TheVariants as fault
 
--- the device is that of the world: it has its program and words, took as many entries, and no update was taken
+-- the device is that of the world: it is device 0 of its program, its state stands for the world's, and it took as many entries;
+-- the updates that it has taken in are its own, a causal log
 pub record Represents (p : Program) (w : World) (device : DeviceState) : Type 0 where
   pub program : device.program ≡ p
-  pub words : device.state.words.items ≡ (world_state p w).words
-  pub rep : device.state.rep ≡ start_replicated (shape_of p)
+  pub place : device.device ≡ 0
+  pub state : StandsForPlain p device.state (world_state p w)
+  pub taken : IsTakenIn (world_state p w).taken 0 (world_state p w).taken
   pub number : device.number ≡ last_number w
   pub count : length device.entries ≡ length w.settled
 
@@ -21,6 +24,9 @@ pub record Represents (p : Program) (w : World) (device : DeviceState) : Type 0 
 abbrev pub turn_fault_code : DeviceFault → ℕ
 turn_fault_code fault.Memory = 36
 turn_fault_code fault.Full = 29
+turn_fault_code fault.SetFull = 30
+turn_fault_code fault.CounterFull = 31
+turn_fault_code fault.DotsSpent = 32
 
 -- A command is answered as one step of each world that the device stands for.
 pub record StepsTo (before after : DeviceState) (c : Command) (a : Answer) : Type 0 where

@@ -23,4 +23,4 @@ taken p w (l ∷ lines) os = entered (commanded p l) (line_answer p w (commanded
 -- the word of a var after these entries, each of which may set it: the last one counts
 abbrev pub last_set : List PlainEntry → ℕ → Word → Word
 last_set [] id w = w
-last_set (Turn sets fires ∷ entries) id w = last_set entries id (unwrap_or (put_word sets id) w)
+last_set (Turn sets fires operations ∷ entries) id w = last_set entries id (unwrap_or (put_word sets id) w)

@@ -7,7 +7,7 @@ ghost use Rattle.re_terms.specs.declared.word.Kind.{Kind};
 ghost use Rattle.re_terms.specs.declared.word.Word.{Word};
 ghost use Rattle.re_terms.specs.Meaning.{meaning};
 ghost use Rattle.re_terms.specs.Programs.{IsProgram};
-ghost use Rattle.re_terms.specs.Runs.{start_view};
+ghost use Rattle.re_terms.specs.Runs.{plain_view};
 ghost use Rattle.re_terms.specs.SignalWords.{names_environment, signal_word};
 ghost use Rattle.re_terms.specs.Worlds.{World, Outcome, Fine, Memory, Refused, start_world, world_state};
 ghost use Rattle.re_commands.specs.Commanding.{commanded};
@@ -38,7 +38,7 @@ pub fn signal_law()
     ensures { (p : Program) (w : World) (line : List ℕ) (device id : ℕ) (d : Decl) (kind : Kind) (expr : Expr) → IsProgram p →
         commanded p line ≡ Ok (Some (Command.Get device id)) → slice_get p.decls.items id ≡ Some d → d.body ≡ Body.Signal kind expr →
         line_text p w (commanded p line) Fine
-        ≡ word_text p (meaning expr (names_environment p.decls.items (start_view p) (signal_word p (world_state p w).words (start_view p)) None None)) ++ 10 ∷ [] }
+        ≡ word_text p (meaning expr (names_environment p.decls.items (plain_view p (world_state p w)) (signal_word p (world_state p w).words (plain_view p (world_state p w))) None None)) ++ 10 ∷ [] }
 {}
 
 /// Want of memory aside, the codes 20 to 25 are said of the lines with these faults, and of no others. No answer is given

@@ -38,10 +38,6 @@ fn word_after<L: Ledger>(
     let Ok(Some(Command::Turn { turn, .. })) = command(alloc, line, device.program()) else {
         return None;
     };
-    // A device doesn't do operations on replicated cells so far.
-    if turn.turn.ops.len() > 0 {
-        return None;
-    }
     let mut steps = Steps::<L>::new(blank);
     device.turn(turn, &mut steps).ok()?;
     Some(device.word(id))
@@ -52,6 +48,15 @@ fn a_device_takes_a_turn(rt: HostRuntime) {
     let text = b"device a; var x: int = 2; signal s = x + 3;";
     let word = word_after::<Brand>(rt.alloc(), Blank::new(1), text, b"turn a x = 5", 2);
     assert_eq!(rt; word, Some(Word::Int(8)));
+    let text = b"device a; counter c; signal s = c * 2;";
+    let word = word_after::<Brand>(
+        rt.alloc(),
+        Blank::new(1),
+        text,
+        b"turn a add c 5, add c -2",
+        2,
+    );
+    assert_eq!(rt; word, Some(Word::Int(6)));
 }
 
 /// What a session over these bytes says, in memory, and how it ends.

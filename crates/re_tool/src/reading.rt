@@ -2,7 +2,6 @@
 ghost use Rattle.std.specs.Prelude.{◌≡◌, true, length, nat_lt, IfOk, Err};
 ghost use Rattle.re_print.specs.Canonical.{program_text};
 ghost use Rattle.re_terms.specs.Programs.{IsProgram};
-ghost use Rattle.re_tool.specs.Built.{is_built as is_built_program};
 ghost use Rattle.re_tool.specs.Verdict.{text_limit, Decides, Judges, Rejected, Accepted};
 
 use crate::built::is_built;
@@ -50,7 +49,6 @@ pub fn read_program(alloc: Global, job: Job, text: &[u8]) -> Result<Program, Pro
     ensures accepted { IfOk result (λ p. Decides job text.now (Accepted p)) }
     ensures refused { (why : Refusal) → result ≡ Err (ProgramFault.Refused why) → Decides job text.now (Rejected why) }
     ensures program { IfOk result IsProgram }
-    ensures built { IfOk result (λ p. job ≡ Job.Run → is_built_program p ≡ true) }
 {
     let program = judge(alloc, text)?;
     match job {

@@ -1,11 +1,10 @@
 //! A whole run over a stream.
-ghost use Rattle.std.specs.Prelude.{◌≡◌, ◌≢◌, ◌≤◌, ◌<◌, ◌+◌, ◌-◌, ◌⊎◌, [], true, length, IfOk, IfSome, OnOk, OnErr, Some, Err};
+ghost use Rattle.std.specs.Prelude.{ℕ, ◌≡◌, ◌≢◌, ◌≤◌, ◌<◌, ◌+◌, ◌-◌, ◌⊎◌, [], true, length, IfOk, IfSome, OnOk, OnErr, Some, Err};
 ghost use Rattle.re_outside.specs.Outside.{Seen, Does, Breaks, none};
-ghost use Rattle.re_terms.specs.Admission.{IsCommandOf};
+ghost use Rattle.re_terms.specs.Admission.{IsAdmitted, IsCommandOf};
 ghost use Rattle.re_terms.specs.Programs.{IsProgram};
-ghost use Rattle.re_terms.specs.Worlds.{plain_answer};
+ghost use Rattle.re_terms.specs.Worlds.{is_set_at};
 ghost use Rattle.re_tool.specs.Answers.{status_line, fault_code};
-ghost use Rattle.re_tool.specs.Built.{is_built};
 ghost use Rattle.re_tool.specs.Causes.{EndCause, ProgramCause, InputCause, OutputCause, TooLongCause, Completes};
 ghost use Rattle.re_tool.specs.Device.{StepsTo, turn_fault_code};
 ghost use Rattle.re_tool.specs.Clipped.{Clipped};
@@ -15,7 +14,7 @@ ghost use Rattle.re_tool.specs.Reads.{limit};
 ghost use Rattle.re_tool.specs.Serving.{AnswersLine, TurnGives, Starts, said_of};
 ghost use Rattle.re_tool.specs.Session.{Finishes, Runs};
 ghost use Rattle.re_tool.specs.Verdict.{Decides, Accepted, refusal_words};
-ghost use Rattle.re_print.specs.AnswerTexts.{IsNoSet};
+ghost use Rattle.re_print.specs.AnswerTexts.{AscendsWhereSet};
 ghost use Rattle.re_device.specs.Device.{started};
 
 use crate::faults::{ProgramFault, Refusal, refusal_text};
@@ -31,7 +30,7 @@ use re_eval::Steps;
 use re_graph::Graph;
 use re_outside::{Bytes, Failed, Outside, say_all};
 use re_print::{print_answer, print_program};
-use re_terms::{Answer, Command, Program};
+use re_terms::{Admitted, Answer, Body, Command, Program, TryCopy};
 use std::alloc::{AllocError, Global};
 use std::marker::Brand;
 use std::sync::ledger::{Blank, Ledger};
@@ -41,6 +40,9 @@ const LINE_KEPT: usize = 1026;
 
 /// The code of a command that can't be done so far.
 const NOT_BUILT: u8 = 19;
+
+/// The code of a command for which memory ran out.
+const NO_MEMORY: u8 = 36;
 
 /// Why a line has no whole answer.
 #[derive(Clone, Copy, Debug, PartialEq, Eq)]
@@ -73,23 +75,64 @@ fn turn_fault_code(fault: DeviceFault) -> u8
     match fault {
         DeviceFault::Memory => 36,
         DeviceFault::Full => 29,
+        DeviceFault::SetFull => 30,
+        DeviceFault::CounterFull => 31,
+        DeviceFault::DotsSpent => 32,
+    }
+}
+
+/// Whether the declaration with this id is a set.
+fn is_set(p: &Program, id: u16) -> bool
+    ensures { result ≡ is_set_at p.now.decls.items id }
+{
+    match p.decls.get(id as usize) {
+        Some(decl) => matches!(decl.body, Body::Set { .. }),
+        None => false,
+    }
+}
+
+/// What `get` shows of a name: a set's pairs, or a word. The one refusal is want of memory, for a set.
+fn shown(alloc: Global, device: &Device, id: u16) -> Answer
+    ensures steps { (number : ℕ) → StepsTo device.now device.now (Command.Get number id) result }
+    ensures ascends { AscendsWhereSet result }
+{
+    if !is_set(device.program(), id) {
+        return Answer::Value(device.word(id));
+    }
+    match device.pairs(id).copy(alloc) {
+        Ok(pairs) => Answer::Members(pairs),
+        Err(AllocError) => Answer::No(NO_MEMORY),
+    }
+}
+
+/// Takes a turn, and gives its answer. A refused turn changes nothing.
+fn take_turn<L: Ledger>(device: &mut Device, steps: &mut Steps<L>, turn: Admitted) -> Answer
+    requires { IsAdmitted device.old.program turn.turn }
+    ensures steps { (number : ℕ) → StepsTo device.old device.new (Command.Turn number turn) result }
+    ensures program { device.new.program ≡ device.old.program }
+    ensures ascends { AscendsWhereSet result }
+{
+    match device.turn(turn, steps) {
+        Ok(done) => Answer::Entered(done.number),
+        Err(fault) => Answer::No(turn_fault_code(fault)),
     }
 }
 
 /// Does a command, and gives its answer. A refused command changes nothing.
-fn answer_command<L: Ledger>(device: &mut Device, steps: &mut Steps<L>, command: Command) -> Answer
-    requires built { is_built device.old.program ≡ true }
-    requires command { IsCommandOf device.old.program command }
+fn answer_command<L: Ledger>(
+    alloc: Global,
+    device: &mut Device,
+    steps: &mut Steps<L>,
+    command: Command,
+) -> Answer
+    requires { IsCommandOf device.old.program command }
     ensures steps { StepsTo device.old device.new command result }
     ensures program { device.new.program ≡ device.old.program }
-    ensures no_set { IsNoSet (plain_answer result) }
+    ensures ascends { AscendsWhereSet result }
 {
     match command {
-        Command::Turn { turn, .. } => match device.turn(turn, steps) {
-            Ok(done) => Answer::Entered(done.number),
-            Err(fault) => Answer::No(turn_fault_code(fault)),
-        },
-        Command::Get { id, .. } => Answer::Value(device.word(id)),
+        Command::Turn { turn, .. } => take_turn(device, steps, turn),
+        Command::Get { id, .. } => shown(alloc, device, id),
         _ => Answer::No(NOT_BUILT),
     }
 }
@@ -103,22 +146,21 @@ fn answer_line<L: Ledger>(
     steps: &mut Steps<L>,
     line: &[u8],
 ) -> Option<Answer>
-    requires program { IsProgram device.old.program }
-    requires built { is_built device.old.program ≡ true }
+    requires { IsProgram device.old.program }
     ensures answers { AnswersLine device.old.program line.now device.old device.new (said_of device.old.program result) }
     ensures program { device.new.program ≡ device.old.program }
-    ensures no_set { IfSome result (λ a. IsNoSet (plain_answer a)) }
+    ensures ascends { IfSome result (λ a. AscendsWhereSet a) }
 {
     match command(alloc, line, device.program()) {
         Ok(None) => None,
-        Ok(Some(command)) => Some(answer_command(device, steps, command)),
+        Ok(Some(command)) => Some(answer_command(alloc, device, steps, command)),
         Err(fault) => Some(Answer::No(fault_code(fault))),
     }
 }
 
 /// The line of an answer. The one refusal is want of memory.
 fn answer_text(alloc: Global, p: &Program, answer: &Answer) -> Result<Bytes, AllocError>
-    requires { IsNoSet (plain_answer answer.now) }
+    requires { AscendsWhereSet answer.now }
     ensures { IfOk result (λ text. text.items ≡ said_of p.now (Some answer.now)) }
 {
     let mut text = print_answer(alloc, p, answer)?;
@@ -134,8 +176,7 @@ fn turn<L: Ledger, O: Outside>(
     line: &[u8],
     out: &mut O,
 ) -> Result<(), Ended>
-    requires program { IsProgram device.old.program }
-    requires built { is_built device.old.program ≡ true }
+    requires { IsProgram device.old.program }
     ensures program { device.new.program ≡ device.old.program }
     ensures turns { TurnGives device.old.program line.now device.old device.new (O.seen out.old) (O.seen out.new) result }
 {
@@ -210,7 +251,6 @@ fn serve<L: Ledger, O: Outside>(
     out: &mut O,
 ) -> Status
     requires program { IsProgram device.old.program }
-    requires built { is_built device.old.program ≡ true }
     requires few { reader.old.taken ≤ limit }
     ensures { (start : Seen) → Starts start (O.seen out.old) device.old.program reader.old device.old → Runs Job.Run start (O.seen out.new) result }
 {
@@ -259,7 +299,6 @@ fn run_program<L: Ledger, O: Outside>(
     requires parts { blank.parts ≡ L.parts }
     requires one { 0 < L.parts }
     requires program { IsProgram opened.program }
-    requires built { is_built opened.program ≡ true }
     requires few { reader.old.taken ≤ limit }
     ensures { (start : Seen) (text : Clipped) → PartIs reader.old text opened.is_divided start (O.seen out.old) → Decides Job.Run text.items (Accepted opened.program) → Runs Job.Run start (O.seen out.new) result }
 {
@@ -290,7 +329,6 @@ fn open<O: Outside>(
     requires start { reader.old ≡ record { chunk = []; taken = 0 } }
     ensures opened { IfOk result (λ opened. Opens job reader.new opened.is_divided opened.program (O.seen out.old) (O.seen out.new)) }
     ensures program { IfOk result (λ opened. IsProgram opened.program) }
-    ensures built { IfOk result (λ opened. job ≡ Job.Run → is_built opened.program ≡ true) }
     ensures ended { (s : Status) → result ≡ Err s → Runs job (O.seen out.old) (O.seen out.new) s }
 {
     let part = match read_part(alloc, reader, out) {

@@ -479,12 +479,10 @@ fn programs_are_checked(rt: HostRuntime) -> Result<(), TestFail> {
 #[test]
 fn other_programs_are_not_built(rt: HostRuntime) -> Result<(), TestFail> {
     let alloc = rt.alloc();
-    let cases: [&[u8]; 5] = [
+    let cases: [&[u8]; 3] = [
         b"device a; device b;",
-        b"device a; counter c;",
-        b"device a; set t: int;\n---\nget a t\n",
-        b"device a; register m: int = 0;",
-        b"device a; device b; var x: int = 1; counter c;",
+        b"device a; device b; counter c;",
+        b"device a; var x: int = 1; device b; device c;\n---\nget a x\n",
     ];
     for input in cases {
         assert!(rt; is_refused(&rt, alloc, "run", input, b"not built")?);
@@ -530,6 +528,96 @@ fn whole_turns_are_taken(rt: HostRuntime) -> Result<(), TestFail> {
     for (input, answers) in cases {
         assert!(rt; is_ran(&run(&rt, alloc, input)?, Status::Done, answers));
     }
+    Ok(())
+}
+
+#[test]
+fn operations_are_taken(rt: HostRuntime) -> Result<(), TestFail> {
+    let alloc = rt.alloc();
+    let cases: [(&[u8], &[u8]); 4] = [
+        (
+            b"device a; counter c; set s: int;\n---\nturn a add c 9223372036854775807\nturn a add c 1\nturn a add c -1\nget a c\nturn a add c -9223372036854775808\n",
+            b"ok 1\nno 31\nok 2\n9223372036854775806\nno 31\n",
+        ),
+        (
+            b"device a; set s: int;\n---\nturn a insert s 4, remove s 4\nget a s\nturn a insert s 9, insert s -4, insert s 9\nget a s\n",
+            b"ok 1\n{}\nok 2\n{-4, 9}\n",
+        ),
+        // A refused operation takes back those before it, and all else of its turn.
+        (
+            b"device a; counter c; set s: int; register m: bool = false; var x: int = 1;\n---\nturn a x = 2, insert s 7, write m true, add c 9223372036854775807, add c 1\nget a x\nget a s\nget a m\nget a c\nturn a add c 3\nget a c\n",
+            b"no 31\n1\n{}\nfalse\n0\nok 1\n3\n",
+        ),
+        (
+            b"device a; symbol red; symbol blue; counter c; set s: sym; register m: sym = red; event up = changed(c); fold n: int = 0 on up do self + arg; event new = changed(m); fold k: int = 0 on new do self + 1; signal many = size(s); signal is_in = has(s, blue);\n---\nget a s\nget a m\nturn a add c 2, add c -5, insert s blue, insert s red, write m blue\nget a c\nget a n\nget a s\nget a m\nget a k\nget a many\nget a is_in\nturn a write m blue, add c 0, remove s red, insert s blue\nget a k\nget a n\nget a s\nturn a insert s 4\nturn a write m red, remove s blue, add c 4\nget a n\nget a k\nget a s\nget a c\nget a many\n",
+            b"{}\nred\nok 1\n-3\n-3\n{red, blue}\nblue\n1\n2\ntrue\nok 2\n1\n-3\n{blue}\nno 22\nok 3\n-2\n2\n{}\n1\n0\n",
+        ),
+    ];
+    for (input, answers) in cases {
+        assert!(rt; is_ran(&run(&rt, alloc, input)?, Status::Done, answers));
+    }
+    Ok(())
+}
+
+/// A turn with so many times the same part.
+fn repeated(alloc: Global, part: &[u8], count: usize) -> Result<Vec<u8>, AllocError> {
+    let mut line = b"turn a ".to_vec(alloc)?;
+    line.extend_from_slice(part)?;
+    for _ in 1..count {
+        line.extend_from_slice(b", ")?;
+        line.extend_from_slice(part)?;
+    }
+    line.push(b'\n')?;
+    Ok(line)
+}
+
+#[test]
+fn a_turn_has_64_parts_at_most(rt: HostRuntime) -> Result<(), TestFail> {
+    let alloc = rt.alloc();
+    let mut input =
+        b"device a; symbol red; var x: int = 0; event e: int; signal s = x; event d = changed(s); counter c;\n---\n".to_vec(
+            alloc,
+        )?;
+    input.extend_from_slice(&repeated(alloc, b"add c 1", 65)?)?;
+    input.extend_from_slice(&repeated(alloc, b"add c 1", 64)?)?;
+    input.extend_from_slice(b"get a c\n")?;
+    assert!(rt;
+        is_ran(
+            &run(&rt, alloc, &input)?,
+            Status::Done,
+            b"no 25\nok 1\n64\n"
+        )
+    );
+    Ok(())
+}
+
+/// A turn that inserts the 64 numbers from this one on.
+fn inserts_from(alloc: Global, first: u32) -> Result<Vec<u8>, AllocError>
+    requires { first < 1024 }
+{
+    let front = format!(in alloc; "turn a insert s {first}")?;
+    let mut line = front.as_bytes().to_vec(alloc)?;
+    for n in 1u32..64 {
+        let part = format!(in alloc; ", insert s {}", first + n)?;
+        line.extend_from_slice(part.as_bytes())?;
+    }
+    line.push(b'\n')?;
+    Ok(line)
+}
+
+#[test]
+fn a_full_set_takes_no_more(rt: HostRuntime) -> Result<(), TestFail> {
+    let alloc = rt.alloc();
+    let mut input = b"device a; counter c; set s: int; signal n = size(s);\n---\n".to_vec(alloc)?;
+    let mut answers = Vec::new(alloc);
+    for turn in 0u32..16 {
+        input.extend_from_slice(&inserts_from(alloc, turn * 64)?)?;
+        let answer = format!(in alloc; "ok {}\n", turn + 1)?;
+        answers.extend_from_slice(answer.as_bytes())?;
+    }
+    input.extend_from_slice(b"turn a insert s 1024\nturn a insert s 5\nget a n\n")?;
+    answers.extend_from_slice(b"no 30\nok 17\n1024\n")?;
+    assert!(rt; is_ran(&run(&rt, alloc, &input)?, Status::Done, &answers));
     Ok(())
 }
 

@@ -14,8 +14,5 @@ returns-in-Check-clause-accepted c = rw c.in-Check.is (accepted_checked _ _ c.in
 pub returns-in-Run-clause-accepted : goal.returns-in-Run-clause-accepted
 returns-in-Run-clause-accepted c = rw c.in-Run.is (accepted_run _ _ c.in_ok-program.ensures.accepted (sym c.if-is_built.ensures))
 
-pub returns-in-Run-clause-built : goal.returns-in-Run-clause-built
-returns-in-Run-clause-built c = λ e. sym c.if-is_built.ensures
-
 pub returns-in-Run-2-clause-refused : goal.returns-in-Run-2-clause-refused
 returns-in-Run-2-clause-refused c = λ why e. rw c.in-Run-2.is (not_built _ _ why c.in_ok-program.ensures.accepted (sym c.if-is_built.ensures) e)

@@ -1,6 +1,5 @@
-use Rattle.std.proofs.Common.{◌≡◌, ◌∙◌, true, refl, sym, ap, subst}
+use Rattle.std.proofs.Common.{◌∙◌, refl, sym, ap, subst}
 use Rattle.re_terms.specs.Programs.{IsProgram}
-use Rattle.re_tool.specs.Built.{is_built}
 use Rattle.re_outside.specs.Outside.{Seen}
 use Rattle.re_tool.specs.Clipped.{Clipped}
 use Rattle.re_tool.specs.Serving.{Starts}
@@ -16,7 +15,6 @@ lines-init g c = record {
   so_far = λ start h. starts_so_far start _ _ _ _ h;
   program = refl;
   is_program = c.requires.program;
-  built = c.requires.built;
   few = c.requires.few;
   most = ap (λ (l : Clipped). l.most) c.new-line.ensures;
 }
@@ -49,7 +47,6 @@ lines-preserved g c =
       so_far = λ start h. so_far_more _ _ _ _ _ _ _ _ _ (c.lines.invariant.so_far start h) _ _ e.0 e.1 (turns_kept _ _ _ _ _ _ _ _ e.0.keeps c.lines.invariant.most (turns_of _ _ _ _ _ _ _ c.lines.invariant.program t));
       program = c.in-Ok.ensures.program ∙ c.lines.invariant.program;
       is_program = subst IsProgram (sym c.in-Ok.ensures.program) c.lines.invariant.is_program;
-      built = subst (λ p. is_built p ≡ true) (sym c.in-Ok.ensures.program) c.lines.invariant.built;
       few = e.1;
       most = ap (λ (l : Clipped). l.most) e.0.keeps ∙ c.lines.invariant.most;
     }

@@ -1,7 +1,6 @@
-use Rattle.std.proofs.Common.{◌≡◌, ◌≤◌, ◌+◌, ◌-◌, true, length}
+use Rattle.std.proofs.Common.{◌≡◌, ◌≤◌, ◌+◌, ◌-◌, length}
 use Rattle.re_outside.specs.Outside.{Seen}
 use Rattle.re_terms.specs.Programs.{IsProgram}
-use Rattle.re_tool.specs.Built.{is_built}
 use Rattle.re_tool.specs.Reads.{limit}
 use Rattle.re_tool.specs.Serving.{Starts}
 use Rattle.re_tool.proofs.Sessions.{SoFar}
@@ -12,7 +11,6 @@ invariant-lines g l = let seen = g.O.Outside.seen in record {
   so_far : (start : Seen) → Starts start (seen l.fn.out) l.fn.device.program l.fn.reader l.fn.device → SoFar start (seen l.out) l.fn.device.program l.reader l.device;
   program : l.device.program ≡ l.fn.device.program;
   is_program : IsProgram l.device.program;
-  built : is_built l.device.program ≡ true;
   few : l.reader.taken ≤ limit;
   most : l.line.most ≡ 1026;
 }
