@@ -64,6 +64,16 @@ def turns(program):
     return program + "---\n" + "turn a x = 1\nturn a x = 2\n" * 2_048
 
 
+def operations():
+    """A set that is filled with 1,024 elements, and turns with three operations each, up to as many as a device takes."""
+    text = "device a; counter c; set s: int; register m: int = 0; signal n = size(s);\n---\n"
+    for turn in range(16):
+        text += "turn a " + ", ".join(f"insert s {turn * 64 + part}" for part in range(64)) + "\n"
+    for turn in range(16, 4_096):
+        text += f"turn a insert s {turn % 1_024}, add c 1, write m {turn}\n"
+    return text
+
+
 def gets(program, name):
     """A turn and a million gets."""
     return program + "---\nturn a x = 1\n" + f"get a {name}\n" * 1_000_000
@@ -137,6 +147,7 @@ def all_inputs():
     yield "turns_in_chain", turns(chain()), 0, 4_096, "ok 4096", 20
     yield "turns_in_diamond", turns(diamond()), 0, 4_096, "ok 4096", 20
     yield "turns_among_500", turns(independent()), 0, 4_096, "ok 4096", 20
+    yield "operations", operations(), 0, 4_096, "ok 4096", 20
     yield "no_commands", lines(1_000_000, "no such\n"), 0, 1_000_000, "no 20"
     yield "full_of_gets", full_gets, 0, count, "5"
     yield "full_of_empty_lines", padded(SMALL, LIMIT), 0, 0, ""
