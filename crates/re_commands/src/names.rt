@@ -1,45 +1,12 @@
 //! What the names of a line stand for.
-ghost use Rattle.std.specs.Prelude.{◌≡◌, ◌<◌, length, IfOk, IfSome, true};
+ghost use Rattle.std.specs.Prelude.{◌≡◌, ◌<◌, IfOk, true};
 ghost use Rattle.re_terms.specs.Admission.{device_count, is_shown_at, is_shown_body};
-ghost use Rattle.re_terms.specs.Programs.{IsProgram, is_device, is_device_body, names_of};
-ghost use Rattle.re_types.specs.Resolving.{place_of};
+ghost use Rattle.re_terms.specs.Programs.{IsProgram};
 ghost use Rattle.re_commands.specs.Commanding.{device_of, device_number, shown_of};
 
 use crate::CommandFault;
-use re_terms::{Body, Decl, Program, Text};
-
-/// The place of the declaration with this name.
-fn place(decls: &[Decl], name: &Text) -> Option<usize>
-    ensures place { result ≡ place_of (names_of decls.now) name.now.items }
-    ensures within { IfSome result (λ id. id < length decls.now) }
-{
-    for (id, decl) in decls.iter().enumerate() {
-        if name.as_slice() == decl.name.as_slice() {
-            return Some(id);
-        }
-    }
-    None
-}
-
-/// Whether it declares a device.
-fn is_device(decl: &Decl) -> bool
-    ensures { result ≡ is_device decl.now }
-{
-    matches!(decl.body, Body::Device)
-}
-
-/// How many of these declarations are devices.
-fn count_devices(decls: &[Decl]) -> usize
-    ensures { result ≡ device_count decls.now }
-{
-    let mut devices = 0;
-    for decl in decls {
-        if is_device(decl) {
-            devices += 1;
-        }
-    }
-    devices
-}
+use re_terms::{Body, Program, Text, count_devices};
+use re_types::place;
 
 /// Whether a `get` may ask for it: a var, fold, signal, counter, register or set.
 fn is_shown(body: &Body) -> bool
@@ -64,7 +31,7 @@ pub fn device_of(p: &Program, name: &Text) -> Result<u8, CommandFault>
     let Some(id) = place(decls, name) else {
         return Err(CommandFault::Unknown);
     };
-    if !is_device(&decls[id]) {
+    if !decls[id].body.is_device() {
         return Err(CommandFault::Kind);
     }
     Ok(count_devices(&decls[..id]) as u8)

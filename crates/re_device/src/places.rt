@@ -1,10 +1,9 @@
 //! Where the states of a program's cells stand.
 ghost use Rattle.std.specs.Prelude.{◌≡◌, ◌<◌, length, slice_index, slice_index_or, IfOk};
-ghost use Rattle.re_terms.specs.Programs.{IsProgram, is_replicated_body};
-ghost use Rattle.re_terms.specs.Cells.{is_cell_body};
+ghost use Rattle.re_terms.specs.Programs.{IsProgram};
 ghost use Rattle.re_device.specs.Placing.{places_of};
 
-use re_terms::{Body, Program, Seq};
+use re_terms::{Program, Seq};
 use std::alloc::{AllocError, Global};
 
 /// For each declaration how many vars and folds, and how many replicated cells, are declared before it. That is the place
@@ -15,23 +14,6 @@ pub struct Places {
     pub replicated: Seq<u16>,
     /// How many replicated cells there are.
     pub replicated_count: u16,
-}
-
-/// Whether a declaration is a var or a fold.
-fn has_word(body: &Body) -> bool
-    ensures { result ≡ is_cell_body body.now }
-{
-    matches!(body, Body::Var { .. } | Body::Fold { .. })
-}
-
-/// Whether a declaration is a replicated cell.
-fn is_replicated(body: &Body) -> bool
-    ensures { result ≡ is_replicated_body body.now }
-{
-    matches!(
-        body,
-        Body::Counter | Body::Set { .. } | Body::Register { .. }
-    )
 }
 
 impl Places {
@@ -47,8 +29,8 @@ impl Places {
         for decl in p.decls.as_slice() {
             words.push(word_count)?;
             replicated.push(replicated_count)?;
-            word_count += u16::from(has_word(&decl.body));
-            replicated_count += u16::from(is_replicated(&decl.body));
+            word_count += u16::from(decl.body.is_cell());
+            replicated_count += u16::from(decl.body.is_replicated());
         }
         Ok(Places {
             words,

@@ -1,20 +1,10 @@
 //! The names of a program's declarations and symbols.
 ghost use Rattle.std.specs.Prelude.{◌≡◌, IfOk};
-ghost use Rattle.re_terms.specs.Programs.{is_symbol};
 ghost use Rattle.re_print.specs.Canonical.{name_text, symbol_text};
 
-use re_terms::{Body, Decl, Program};
+use re_terms::{Decl, Program};
 use std::alloc::{AllocError, Global};
 use std::marker::Model;
-
-fn is_symbol(decl: &Decl) -> bool
-    ensures { result ≡ is_symbol decl.now }
-{
-    match decl.body {
-        Body::Symbol => true,
-        _ => false,
-    }
-}
 
 /// The name of the symbol with this number, found by a walk; the empty name where there is none.
 pub fn symbol_name(p: &Program, number: u16) -> &[u8]
@@ -22,7 +12,7 @@ pub fn symbol_name(p: &Program, number: u16) -> &[u8]
 {
     let mut before = number;
     for decl in p.decls.as_slice() {
-        if is_symbol(decl) {
+        if decl.body.is_symbol() {
             if before == 0 {
                 return decl.name.as_slice();
             }
@@ -62,7 +52,7 @@ impl<'a> Names<'a> {
     {
         let mut symbols = Vec::new(alloc);
         for decl in program.decls.as_slice() {
-            if is_symbol(decl) {
+            if decl.body.is_symbol() {
                 symbols.push(decl)?;
             }
         }

@@ -50,9 +50,13 @@ is_act_of symbols (replicated.Set k) (act.Remove w) = is_word_of symbols k w
 is_act_of symbols (replicated.Register k start) (act.Write w) = is_word_of symbols k w
 is_act_of symbols k a = false
 
+-- among cells of these kinds one takes the operation
+abbrev pub takes_operation : ℕ → List RKind → RepOp → Bool
+takes_operation symbols kinds op = option_map_or (λ k. is_act_of symbols k op.act) (slice_get kinds op.cell) false
+
 -- an operation on a replicated cell that takes it
 abbrev pub is_operation_of : List Decl → RepOp → Bool
-is_operation_of decls op = option_map_or (λ k. is_act_of (symbol_count decls) k op.act) (slice_get (replicated_kinds decls) op.cell) false
+is_operation_of decls op = takes_operation (symbol_count decls) (replicated_kinds decls) op
 
 -- how many parts a turn has
 abbrev pub part_count : Turn → ℕ

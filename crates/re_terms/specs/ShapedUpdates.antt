@@ -4,7 +4,7 @@
 use Rattle.std.specs.Prelude.{ℕ, ◌^◌, ◌<◌, ◌≤◌, ◌≡◌, ◌&&◌, Bool, false, nat_lt, Some, slice_get}
 use Rattle.std.specs.List.{All, sum_by}
 use Rattle.std.specs.Option.{option_map_or}
-use Rattle.re_terms.specs.Admission.{is_act_of}
+use Rattle.re_terms.specs.Admission.{is_act_of, takes_operation}
 use Rattle.re_terms.specs.Shapes.{pair_count}
 use Rattle.re_terms.specs.Updates.{Update}
 use Rattle.re_terms.specs.declared.replicated.RCell.{RCell}
@@ -15,7 +15,7 @@ use Rattle.re_terms.specs.declared.replicated.Shape.{Shape}
 
 -- an operation on a cell that takes its act
 abbrev pub is_operation_in : Shape → RepOp → Bool
-is_operation_in shape op = option_map_or (λ k. is_act_of shape.symbols k op.act) (slice_get shape.cells.items op.cell) false
+is_operation_in shape op = takes_operation shape.symbols shape.cells.items op
 
 -- an update's device is one of the shape's, and its cell takes its act
 abbrev pub is_update_of : Shape → Update → Bool

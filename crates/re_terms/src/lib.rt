@@ -16,6 +16,7 @@ pub mod reserved;
 pub mod seq;
 pub mod shape;
 pub mod signs;
+pub mod sorts;
 #[cfg(test)]
 mod tests;
 pub mod text;
@@ -38,6 +39,7 @@ pub use replicated::{
 };
 pub use seq::Seq;
 pub use shape::replicated_kind;
+pub use sorts::count_devices;
 pub use text::Text;
 pub use token::{Mark, Token};
 pub use vectors::{covers, join_vectors};

@@ -1,9 +1,10 @@
 //! Shapes of programs, and start states.
-ghost use Rattle.std.specs.Prelude.{◌≡◌, ◌≤◌, length, count_by, IfOk};
+ghost use Rattle.std.specs.Prelude.{◌≡◌, IfOk};
 ghost use Rattle.re_terms.specs.Listed.{plain};
-ghost use Rattle.re_terms.specs.Programs.{IsProgram, is_device, is_symbol};
+ghost use Rattle.re_terms.specs.Programs.{IsProgram};
 ghost use Rattle.re_terms.specs.Shapes.{IsShape, replicated_kind, replicated_kinds, shape_of, start_cell, start_replicated, start_word, start_words, start_state};
 
+use crate::sorts::{count_devices, count_symbols};
 use crate::{
     Body, Decl, Program, RCell, RKind, RState, Rows, Seq, Shape, State, Vector, Word, Written,
 };
@@ -29,32 +30,6 @@ fn start_word(body: &Body) -> Option<Word>
         Body::Var { start, .. } | Body::Fold { start, .. } => Some(*start),
         _ => None,
     }
-}
-
-/// How many of these declarations are devices.
-fn count_devices(decls: &[Decl]) -> usize
-    ensures { result ≡ count_by is_device decls.now }
-{
-    let mut devices = 0;
-    for decl in decls {
-        if let Body::Device = decl.body {
-            devices += 1;
-        }
-    }
-    devices
-}
-
-/// How many of these declarations are symbols.
-fn count_symbols(decls: &[Decl]) -> usize
-    ensures { result ≡ count_by is_symbol decls.now }
-{
-    let mut symbols = 0;
-    for decl in decls {
-        if let Body::Symbol = decl.body {
-            symbols += 1;
-        }
-    }
-    symbols
 }
 
 /// The kinds of the replicated cells, in order of declaration. The one refusal is want of memory.

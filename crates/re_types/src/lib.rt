@@ -22,4 +22,5 @@ mod turn_tests;
 
 pub use admitting::admit;
 pub use fault::{AdmitFault, TypeFault};
+pub use lookup::place;
 pub use resolving::resolve;

@@ -2,12 +2,12 @@
 ghost use Rattle.std.specs.Prelude.{◌≡◌, ◌≤◌, ◌<◌, true, length, slice_get, count_by, IfSome};
 ghost use Rattle.std.specs.Str.{bytes_eq};
 ghost use Rattle.re_terms.specs.Kinds.{sorts_of};
-ghost use Rattle.re_terms.specs.Programs.{names_of, is_symbol as declares_symbol, is_replicated as declares_replicated, is_literal_word};
+ghost use Rattle.re_terms.specs.Programs.{names_of, is_replicated, is_literal_word};
 ghost use Rattle.re_terms.specs.SignalWords.{replicated_place};
 ghost use Rattle.re_terms.specs.Admission.{symbol_count};
 ghost use Rattle.re_types.specs.Resolving.{place_of, is_known, knows_literal as literal_is_known, symbol_of, scope_of, start_word};
 
-use re_terms::{Body, Decl, RawLit, Text, Word};
+use re_terms::{Decl, RawLit, Text, Word};
 
 fn has_name(decl: &Decl, name: &Text) -> bool
     ensures { result ≡ bytes_eq name.now.items decl.now.name.items }
@@ -15,7 +15,7 @@ fn has_name(decl: &Decl, name: &Text) -> bool
     name.as_slice() == decl.name.as_slice()
 }
 
-/// The place of the declaration with this name.
+/// The place of the declaration with this name, counted from 0.
 pub fn place(decls: &[Decl], name: &Text) -> Option<usize>
     ensures place { result ≡ place_of (names_of decls.now) name.now.items }
     ensures within { IfSome result (λ i. i < length decls.now) }
@@ -40,15 +40,6 @@ pub fn knows_literal(decls: &[Decl], literal: &RawLit) -> bool
     }
 }
 
-fn is_symbol(decl: &Decl) -> bool
-    ensures { result ≡ declares_symbol decl.now }
-{
-    match decl.body {
-        Body::Symbol => true,
-        _ => false,
-    }
-}
-
 /// The number of the symbol at this place.
 fn symbol(decls: &[Decl], place: usize) -> Option<u16>
     requires few { length decls.now ≤ 512 }
@@ -56,10 +47,13 @@ fn symbol(decls: &[Decl], place: usize) -> Option<u16>
     ensures number { result ≡ symbol_of (slice_get (sorts_of decls.now) place) }
     ensures below { IfSome result (λ n. n < symbol_count decls.now) }
 {
-    if !is_symbol(&decls[place]) {
+    if !decls[place].body.is_symbol() {
         return None;
     }
-    let before = decls[..place].iter().filter(|decl| is_symbol(decl)).count();
+    let before = decls[..place]
+        .iter()
+        .filter(|decl| decl.body.is_symbol())
+        .count();
     Some(before as u16)
 }
 
@@ -79,24 +73,15 @@ pub fn literal_word(decls: &[Decl], literal: &RawLit) -> Option<Word>
     }
 }
 
-fn is_replicated(decl: &Decl) -> bool
-    ensures { result ≡ declares_replicated decl.now }
-{
-    match decl.body {
-        Body::Counter | Body::Set { .. } | Body::Register { .. } => true,
-        _ => false,
-    }
-}
-
 /// How many replicated cells stand before this place.
 pub fn cell(decls: &[Decl], place: usize) -> u8
-    requires few { count_by declares_replicated decls.now ≤ 32 }
+    requires few { count_by is_replicated decls.now ≤ 32 }
     requires within { place < length decls.now }
     ensures { result ≡ replicated_place decls.now place }
 {
     let before = decls[..place]
         .iter()
-        .filter(|decl| is_replicated(decl))
+        .filter(|decl| decl.body.is_replicated())
         .count();
     before as u8
 }
