@@ -37,16 +37,6 @@ pub fn next_dot(vector: &Vector, device: u8) -> Result<Dot, ReplicaFault>
     })
 }
 
-/// How many pairs a cell has, 0 where it is no set.
-pub fn pair_count(cell: &RCell) -> usize
-    ensures { result ≡ pair_count cell.now }
-{
-    match cell {
-        RCell::Set(pairs) => pairs.len(),
-        _ => 0,
-    }
-}
-
 /// How many pairs all sets together have.
 fn count_pairs(cells: &[RCell]) -> usize
     requires { sum_by pair_count cells.now ≤ 1024 }
@@ -54,7 +44,7 @@ fn count_pairs(cells: &[RCell]) -> usize
 {
     let mut count = 0;
     for cell in cells {
-        count += pair_count(cell);
+        count += cell.pair_count();
     }
     count
 }
@@ -114,7 +104,7 @@ pub fn act_at(
 {
     let pairs = count_pairs(cells.as_slice());
     let mut cell = cells.replace(place, RCell::Set(Seq::new(alloc)));
-    let room = PAIRS - (pairs - pair_count(&cell)) as u32;
+    let room = PAIRS - (pairs - cell.pair_count()) as u32;
     let done = act_on(&mut cell, dot, act, room);
     cells.set(place, cell);
     done

@@ -9,7 +9,7 @@ ghost use Rattle.re_replica.specs.Cells.{CanMerge};
 ghost use Rattle.re_replica.specs.Changed.{has_bit};
 
 use crate::Changed;
-use crate::acting::{PAIRS, pair_count};
+use crate::acting::PAIRS;
 use re_awset::merge_pairs;
 use re_scalars::{merge_rows, merge_written};
 use re_terms::{Pair, RCell, RState, Seq, SetFault, Vector};
@@ -121,7 +121,7 @@ pub fn merge_cells(alloc: Global, a: &RState, b: &RState) -> Result<MergedCells,
             &b.vector,
             room,
         )?;
-        room -= pair_count(&merged.cell) as u32;
+        room -= merged.cell.pair_count() as u32;
         changed = with_bit(changed, place, merged.changed);
         if let Err(AllocError) = cells.push(merged.cell) {
             return Err(SetFault::Memory);

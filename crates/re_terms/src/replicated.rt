@@ -1,4 +1,7 @@
 //! Replicated states.
+ghost use Rattle.std.specs.Prelude.{◌≡◌};
+ghost use Rattle.re_terms.specs.Shapes.{pair_count};
+
 use crate::{Kind, Seq, TryCopy, Word};
 use std::alloc::{AllocError, Global};
 
@@ -44,6 +47,18 @@ pub enum RCell {
     /// Pairs ascend strictly by element, device and number.
     Set(Seq<Pair>),
     Register(Written),
+}
+
+impl RCell {
+    /// How many pairs it has: 0 where it is no set.
+    pub fn pair_count(&self) -> usize
+        ensures { result ≡ pair_count self.now }
+    {
+        match self {
+            RCell::Set(pairs) => pairs.len(),
+            RCell::Counter(_) | RCell::Register(_) => 0,
+        }
+    }
 }
 
 /// The state of all replicated cells of a device, in order of declaration, and the one vector that stands for them.

@@ -50,16 +50,6 @@ fn get_cell(
     }
 }
 
-/// How many pairs a cell has.
-fn pair_count(cell: &RCell) -> usize
-    ensures { result ≡ pair_count cell.now }
-{
-    match cell {
-        RCell::Set(pairs) => pairs.len(),
-        _ => 0,
-    }
-}
-
 /// The cells of a state.
 fn get_cells(
     alloc: Global,
@@ -77,7 +67,7 @@ fn get_cells(
     let mut behind = at;
     for kind in shape.cells.as_slice() {
         let (cell, next) = get_cell(alloc, bytes, behind, shape, vector, *kind, room)?;
-        room -= pair_count(&cell) as u16;
+        room -= cell.pair_count() as u16;
         cells.push(cell)?;
         behind = next;
     }
