@@ -84,32 +84,35 @@ fn program(alloc: Global) -> Result<Program, Fail>
     Ok(resolve(alloc, Tree { decls })?)
 }
 
-/// What a line is, in one letter or a fault's code, with its device, and an id, a packet's number or a turn's parts.
-fn shape(answer: &Result<Option<Command>, CommandFault>) -> (u8, u8, u64) {
-    match answer {
-        Ok(None) => (b'-', 0, 0),
-        Ok(Some(Command::Turn { device, turn })) => (b't', *device, part_count(&turn.turn)),
-        Ok(Some(Command::Lazy { device, turn })) => (b'l', *device, part_count(&turn.turn)),
-        Ok(Some(Command::Settle { device })) => (b's', *device, 0),
-        Ok(Some(Command::Get { device, id })) => (b'g', *device, u64::from(*id)),
-        Ok(Some(Command::Send { device })) => (b'p', *device, 0),
-        Ok(Some(Command::Deliver { packet, device })) => (b'd', *device, *packet),
-        Ok(Some(Command::Hex { packet })) => (b'h', 0, *packet),
-        Ok(Some(Command::Crash { device })) => (b'c', *device, 0),
-        Ok(Some(Command::Restart { device })) => (b'r', *device, 0),
-        Err(fault) => (code(*fault), 0, 0),
-    }
+/// What a line is: of a turn its device and how many parts it has, of another command what it names.
+#[derive(Clone, Copy, Debug, PartialEq, Eq)]
+enum Line {
+    Nothing,
+    Turn(u8, u64),
+    Lazy(u8, u64),
+    Settle(u8),
+    Get(u8, u16),
+    Send(u8),
+    Deliver(u64, u8),
+    Hex(u64),
+    Crash(u8),
+    Restart(u8),
+    Refused(CommandFault),
 }
 
-fn code(fault: CommandFault) -> u8 {
-    match fault {
-        CommandFault::Memory => 36,
-        CommandFault::Syntax => 20,
-        CommandFault::Unknown => 21,
-        CommandFault::Kind => 22,
-        CommandFault::Twice => 23,
-        CommandFault::Empty => 24,
-        CommandFault::TooMany => 25,
+fn summary(answer: &Result<Option<Command>, CommandFault>) -> Line {
+    match answer {
+        Ok(None) => Line::Nothing,
+        Ok(Some(Command::Turn { device, turn })) => Line::Turn(*device, part_count(&turn.turn)),
+        Ok(Some(Command::Lazy { device, turn })) => Line::Lazy(*device, part_count(&turn.turn)),
+        Ok(Some(Command::Settle { device })) => Line::Settle(*device),
+        Ok(Some(Command::Get { device, id })) => Line::Get(*device, *id),
+        Ok(Some(Command::Send { device })) => Line::Send(*device),
+        Ok(Some(Command::Deliver { packet, device })) => Line::Deliver(*packet, *device),
+        Ok(Some(Command::Hex { packet })) => Line::Hex(*packet),
+        Ok(Some(Command::Crash { device })) => Line::Crash(*device),
+        Ok(Some(Command::Restart { device })) => Line::Restart(*device),
+        Err(fault) => Line::Refused(*fault),
     }
 }
 
@@ -119,79 +122,122 @@ fn part_count(turn: &Turn) -> u64 {
         .saturating_add(turn.ops.len() as u64)
 }
 
+/// Lines that are read, and what they are.
+const READ: [(&[u8], Line); 20] = [
+    (b"", Line::Nothing),
+    (b" \t\r# turn a x = 1", Line::Nothing),
+    (b"turn a x = 1", Line::Turn(0, 1)),
+    (b"lazy b add c 1, add c 2 # twice", Line::Lazy(1, 2)),
+    (b"settle b", Line::Settle(1)),
+    (b"\tget a x\r", Line::Get(0, 3)),
+    (b"get b s", Line::Get(1, 5)),
+    (b"get a c", Line::Get(0, 7)),
+    (b"get a t", Line::Get(0, 8)),
+    (b"get a m", Line::Get(0, 9)),
+    (b"send a", Line::Send(0)),
+    (b"deliver 0 b", Line::Deliver(0, 1)),
+    (
+        b"deliver 9223372036854775808 a",
+        Line::Deliver(9223372036854775808, 0),
+    ),
+    (b"hex 9223372036854775808", Line::Hex(9223372036854775808)),
+    (b"crash b", Line::Crash(1)),
+    (b"restart a", Line::Restart(0)),
+    (b"turn a fire = 1", Line::Turn(0, 1)),
+    (b"turn a fire=1,fire e 2", Line::Turn(0, 2)),
+    (b"turn a x = -9223372036854775808", Line::Turn(0, 1)),
+    (b"turn a x = - 5, add c -0", Line::Turn(0, 2)),
+];
+
+/// Lines that aren't of the grammar, whatever else is wrong with them.
+const MALFORMED: [&[u8]; 23] = [
+    b"jump a",
+    b"a",
+    b"turn",
+    b"get a",
+    b"get a x x",
+    b"settle a b",
+    b"deliver a b",
+    b"deliver -1 b",
+    b"hex",
+    b"hex 1 a",
+    b"hex 9223372036854775809",
+    b"turn a x = 9223372036854775808",
+    b"turn a add c 9223372036854775808",
+    b"turn a x = -9223372036854775809",
+    b"turn a x = 1 x = 2",
+    b"turn a x = 1,",
+    b"turn a , x = 1",
+    b"turn a x = 1; x = 2",
+    b"turn a x == 1",
+    b"turn a x = var",
+    b"turn a add c true",
+    b"turn a put t red",
+    b"turn a y = 1 !",
+];
+
+/// Lines with a name that the program lacks.
+const UNKNOWN: [&[u8]; 6] = [
+    b"get a y",
+    b"get x y",
+    b"crash z",
+    b"turn z x = 1",
+    b"turn x y = 1",
+    b"turn x s = 1, t = y",
+];
+
+/// Lines with a name or a literal of a wrong kind.
+const WRONG_KIND: [&[u8]; 10] = [
+    b"turn x",
+    b"send red",
+    b"get x x",
+    b"get a b",
+    b"get a red",
+    b"get a d",
+    b"turn a s = 1",
+    b"turn a x = red",
+    b"turn a fire d 1",
+    b"turn a x = 1, x = 2, insert c 1",
+];
+
+/// Lines that set a var twice, or fire an event twice.
+const TWICE: [&[u8]; 2] = [
+    b"turn a x = 1, x = 2",
+    b"turn a fire e 1, add c 1, fire e 1",
+];
+
 #[test]
 fn reads_lines(rt: HostRuntime) -> Result<(), Fail> {
     let alloc = rt.alloc();
     let p = program(alloc)?;
-    let cases: [(&[u8], (u8, u8, u64)); 62] = [
-        (b"", (b'-', 0, 0)),
-        (b" \t\r# turn a x = 1", (b'-', 0, 0)),
-        (b"turn a x = 1", (b't', 0, 1)),
-        (b"lazy b add c 1, add c 2 # twice", (b'l', 1, 2)),
-        (b"settle b", (b's', 1, 0)),
-        (b"\tget a x\r", (b'g', 0, 3)),
-        (b"get b s", (b'g', 1, 5)),
-        (b"get a c", (b'g', 0, 7)),
-        (b"get a t", (b'g', 0, 8)),
-        (b"get a m", (b'g', 0, 9)),
-        (b"send a", (b'p', 0, 0)),
-        (b"deliver 0 b", (b'd', 1, 0)),
-        (
-            b"deliver 9223372036854775808 a",
-            (b'd', 0, 9223372036854775808),
-        ),
-        (b"hex 9223372036854775808", (b'h', 0, 9223372036854775808)),
-        (b"crash b", (b'c', 1, 0)),
-        (b"restart a", (b'r', 0, 0)),
-        (b"turn a fire = 1", (b't', 0, 1)),
-        (b"turn a fire=1,fire e 2", (b't', 0, 2)),
-        (b"turn a x = -9223372036854775808", (b't', 0, 1)),
-        (b"turn a x = - 5, add c -0", (b't', 0, 2)),
-        (b"jump a", (20, 0, 0)),
-        (b"a", (20, 0, 0)),
-        (b"turn", (20, 0, 0)),
-        (b"get a", (20, 0, 0)),
-        (b"get a x x", (20, 0, 0)),
-        (b"settle a b", (20, 0, 0)),
-        (b"deliver a b", (20, 0, 0)),
-        (b"deliver -1 b", (20, 0, 0)),
-        (b"hex", (20, 0, 0)),
-        (b"hex 1 a", (20, 0, 0)),
-        (b"hex 9223372036854775809", (20, 0, 0)),
-        (b"turn a x = 9223372036854775808", (20, 0, 0)),
-        (b"turn a add c 9223372036854775808", (20, 0, 0)),
-        (b"turn a x = -9223372036854775809", (20, 0, 0)),
-        (b"turn a x = 1 x = 2", (20, 0, 0)),
-        (b"turn a x = 1,", (20, 0, 0)),
-        (b"turn a , x = 1", (20, 0, 0)),
-        (b"turn a x = 1; x = 2", (20, 0, 0)),
-        (b"turn a x == 1", (20, 0, 0)),
-        (b"turn a x = var", (20, 0, 0)),
-        (b"turn a add c true", (20, 0, 0)),
-        (b"turn a put t red", (20, 0, 0)),
-        (b"turn a y = 1 !", (20, 0, 0)),
-        (b"get a y", (21, 0, 0)),
-        (b"get x y", (21, 0, 0)),
-        (b"crash z", (21, 0, 0)),
-        (b"turn z x = 1", (21, 0, 0)),
-        (b"turn x y = 1", (21, 0, 0)),
-        (b"turn x s = 1, t = y", (21, 0, 0)),
-        (b"turn x", (22, 0, 0)),
-        (b"send red", (22, 0, 0)),
-        (b"get x x", (22, 0, 0)),
-        (b"get a b", (22, 0, 0)),
-        (b"get a red", (22, 0, 0)),
-        (b"get a d", (22, 0, 0)),
-        (b"turn a s = 1", (22, 0, 0)),
-        (b"turn a x = red", (22, 0, 0)),
-        (b"turn a fire d 1", (22, 0, 0)),
-        (b"turn a x = 1, x = 2, insert c 1", (22, 0, 0)),
-        (b"turn a x = 1, x = 2", (23, 0, 0)),
-        (b"turn a fire e 1, add c 1, fire e 1", (23, 0, 0)),
-        (b"lazy a", (24, 0, 0)),
+    for (line, wanted) in READ {
+        assert_eq!(rt; summary(&command(alloc, line, &p)), wanted);
+    }
+    Ok(())
+}
+
+/// Whether each of these lines is refused with this fault.
+fn are_refused(alloc: Global, p: &Program, lines: &[&[u8]], fault: CommandFault) -> bool
+    requires { IsProgram p.now }
+{
+    lines
+        .iter()
+        .all(|line| summary(&command(alloc, line, p)) == Line::Refused(fault))
+}
+
+#[test]
+fn refuses_lines(rt: HostRuntime) -> Result<(), Fail> {
+    let alloc = rt.alloc();
+    let p = program(alloc)?;
+    let refused: [(&[&[u8]], CommandFault); 5] = [
+        (&MALFORMED, CommandFault::Syntax),
+        (&UNKNOWN, CommandFault::Unknown),
+        (&WRONG_KIND, CommandFault::Kind),
+        (&TWICE, CommandFault::Twice),
+        (&[b"lazy a"], CommandFault::Empty),
     ];
-    for (line, wanted) in cases {
-        assert_eq!(rt; shape(&command(alloc, line, &p)), wanted);
+    for (lines, fault) in refused {
+        assert!(rt; are_refused(alloc, &p, lines, fault));
     }
     Ok(())
 }
@@ -201,8 +247,8 @@ fn limits_lines_and_parts(rt: HostRuntime) -> Result<(), Fail> {
     let alloc = rt.alloc();
     let p = program(alloc)?;
     let blanks = vec![in alloc; b' '; 1_025]?;
-    assert_eq!(rt; shape(&command(alloc, &blanks, &p)), (20, 0, 0));
-    assert_eq!(rt; shape(&command(alloc, &blanks[..1_024], &p)), (b'-', 0, 0));
+    assert_eq!(rt; summary(&command(alloc, &blanks, &p)), Line::Refused(CommandFault::Syntax));
+    assert_eq!(rt; summary(&command(alloc, &blanks[..1_024], &p)), Line::Nothing);
     let mut line = Vec::new(alloc);
     for byte in b"turn b add c 1" {
         line.push(*byte)?;
@@ -212,11 +258,11 @@ fn limits_lines_and_parts(rt: HostRuntime) -> Result<(), Fail> {
             line.push(*byte)?;
         }
     }
-    assert_eq!(rt; shape(&command(alloc, &line, &p)), (b't', 1, 64));
+    assert_eq!(rt; summary(&command(alloc, &line, &p)), Line::Turn(1, 64));
     for byte in b", add c 1" {
         line.push(*byte)?;
     }
-    assert_eq!(rt; shape(&command(alloc, &line, &p)), (25, 0, 0));
+    assert_eq!(rt; summary(&command(alloc, &line, &p)), Line::Refused(CommandFault::TooMany));
     Ok(())
 }
 

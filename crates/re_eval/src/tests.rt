@@ -101,41 +101,43 @@ const LEAST: i64 = i64::MIN;
 
 const GREATEST: i64 = i64::MAX;
 
+/// Operators with two numbers, and what comes out.
+const OF_NUMBERS: [(Op, i64, i64, Word); 29] = [
+    (Op::Add, GREATEST, 1, Word::Fault(1)),
+    (Op::Add, LEAST, -1, Word::Fault(1)),
+    (Op::Add, GREATEST, LEAST, Word::Int(-1)),
+    (Op::Sub, LEAST, 1, Word::Fault(1)),
+    (Op::Sub, 0, LEAST, Word::Fault(1)),
+    (Op::Sub, -1, LEAST, Word::Int(GREATEST)),
+    (Op::Mul, LEAST, -1, Word::Fault(1)),
+    (Op::Mul, LEAST, 1, Word::Int(LEAST)),
+    (Op::Mul, 3_037_000_500, 3_037_000_500, Word::Fault(1)),
+    (Op::Mul, -4_294_967_296, 2_147_483_648, Word::Int(LEAST)),
+    (Op::Div, -7, 2, Word::Int(-3)),
+    (Op::Div, 7, -2, Word::Int(-3)),
+    (Op::Div, LEAST, -1, Word::Fault(1)),
+    (Op::Div, LEAST, 0, Word::Fault(2)),
+    (Op::Rem, -7, 2, Word::Int(-1)),
+    (Op::Rem, 7, -2, Word::Int(1)),
+    (Op::Rem, LEAST, -1, Word::Int(0)),
+    (Op::Rem, LEAST, GREATEST, Word::Int(-1)),
+    (Op::Rem, 0, 0, Word::Fault(2)),
+    (Op::Lt, LEAST, GREATEST, Word::Bool(true)),
+    (Op::Lt, 5, 5, Word::Bool(false)),
+    (Op::Le, 5, 5, Word::Bool(true)),
+    (Op::Le, GREATEST, LEAST, Word::Bool(false)),
+    (Op::Gt, LEAST, GREATEST, Word::Bool(false)),
+    (Op::Gt, 0, -1, Word::Bool(true)),
+    (Op::Ge, 5, 5, Word::Bool(true)),
+    (Op::Ge, LEAST, GREATEST, Word::Bool(false)),
+    (Op::Eq, LEAST, LEAST, Word::Bool(true)),
+    (Op::Ne, LEAST, LEAST, Word::Bool(false)),
+];
+
 #[test]
 fn numbers_at_their_edges(rt: HostRuntime) -> Result<(), Fail> {
-    let cases = [
-        (Op::Add, GREATEST, 1, Word::Fault(1)),
-        (Op::Add, LEAST, -1, Word::Fault(1)),
-        (Op::Add, GREATEST, LEAST, Word::Int(-1)),
-        (Op::Sub, LEAST, 1, Word::Fault(1)),
-        (Op::Sub, 0, LEAST, Word::Fault(1)),
-        (Op::Sub, -1, LEAST, Word::Int(GREATEST)),
-        (Op::Mul, LEAST, -1, Word::Fault(1)),
-        (Op::Mul, LEAST, 1, Word::Int(LEAST)),
-        (Op::Mul, 3_037_000_500, 3_037_000_500, Word::Fault(1)),
-        (Op::Mul, -4_294_967_296, 2_147_483_648, Word::Int(LEAST)),
-        (Op::Div, -7, 2, Word::Int(-3)),
-        (Op::Div, 7, -2, Word::Int(-3)),
-        (Op::Div, LEAST, -1, Word::Fault(1)),
-        (Op::Div, LEAST, 0, Word::Fault(2)),
-        (Op::Rem, -7, 2, Word::Int(-1)),
-        (Op::Rem, 7, -2, Word::Int(1)),
-        (Op::Rem, LEAST, -1, Word::Int(0)),
-        (Op::Rem, LEAST, GREATEST, Word::Int(-1)),
-        (Op::Rem, 0, 0, Word::Fault(2)),
-        (Op::Lt, LEAST, GREATEST, Word::Bool(true)),
-        (Op::Lt, 5, 5, Word::Bool(false)),
-        (Op::Le, 5, 5, Word::Bool(true)),
-        (Op::Le, GREATEST, LEAST, Word::Bool(false)),
-        (Op::Gt, LEAST, GREATEST, Word::Bool(false)),
-        (Op::Gt, 0, -1, Word::Bool(true)),
-        (Op::Ge, 5, 5, Word::Bool(true)),
-        (Op::Ge, LEAST, GREATEST, Word::Bool(false)),
-        (Op::Eq, LEAST, LEAST, Word::Bool(true)),
-        (Op::Ne, LEAST, LEAST, Word::Bool(false)),
-    ];
     let env = OneWord::new(Word::Int(0));
-    for (op, a, b, word) in cases {
+    for (op, a, b, word) in OF_NUMBERS {
         let left = Expr::Lit(Word::Int(a));
         let right = Expr::Lit(Word::Int(b));
         let e = binary(rt.alloc(), op, left, right)?;

@@ -60,6 +60,21 @@ fn distance(alloc: Global, x: u16) -> Result<Expr, AllocError> {
     })
 }
 
+/// A program with each form of declaration.
+const DECLARATIONS: &[u8] = b"device a;\n\
+    var x: int = -3 in 1;\n\
+    signal s = (if (x < 0) then (0 - x) else x);\n\
+    event e: int;\n\
+    event c = changed(s);\n\
+    event m = map(e, (arg + 1));\n\
+    event f = filter(e, (arg > 0));\n\
+    event g = either(e, m);\n\
+    fold n: int = 0 on c do (self + 1) in 2;\n\
+    counter k;\n\
+    set todo: int;\n\
+    symbol red;\n\
+    register mode: sym = red;\n";
+
 #[test]
 fn prints_each_declaration(rt: HostRuntime) -> Result<(), Fail> {
     let alloc = rt.alloc();
@@ -98,24 +113,48 @@ fn prints_each_declaration(rt: HostRuntime) -> Result<(), Fail> {
     let kind = Kind::Sym;
     let start = Word::Sym(0);
     built.declare(b"mode", Body::Register { kind, start })?;
-    let text = b"device a;\n\
-        var x: int = -3 in 1;\n\
-        signal s = (if (x < 0) then (0 - x) else x);\n\
-        event e: int;\n\
-        event c = changed(s);\n\
-        event m = map(e, (arg + 1));\n\
-        event f = filter(e, (arg > 0));\n\
-        event g = either(e, m);\n\
-        fold n: int = 0 on c do (self + 1) in 2;\n\
-        counter k;\n\
-        set todo: int;\n\
-        symbol red;\n\
-        register mode: sym = red;\n";
     let decls = built.decls;
     let printed = print_program(alloc, &Program { decls })?;
-    assert_eq!(rt; printed.as_slice(), text.as_slice());
+    assert_eq!(rt; printed.as_slice(), DECLARATIONS);
     Ok(())
 }
+
+/// A program with each form of expression.
+const EXPRESSIONS: &[u8] = b"set s: bool;\n\
+    signal a = not(true);\n\
+    signal b = recover(fault(100), -9223372036854775808);\n\
+    signal c = size(s);\n\
+    signal d = has(s, false);\n\
+    signal o = (1 + -2);\n\
+    signal o = (1 - -2);\n\
+    signal o = (1 * -2);\n\
+    signal o = (1 / -2);\n\
+    signal o = (1 % -2);\n\
+    signal o = (1 < -2);\n\
+    signal o = (1 <= -2);\n\
+    signal o = (1 > -2);\n\
+    signal o = (1 >= -2);\n\
+    signal o = (1 == -2);\n\
+    signal o = (1 != -2);\n\
+    signal o = (1 and -2);\n\
+    signal o = (1 or -2);\n";
+
+/// The operators, in the order in which they are printed here.
+const OPERATORS: [Op; 13] = [
+    Op::Add,
+    Op::Sub,
+    Op::Mul,
+    Op::Div,
+    Op::Rem,
+    Op::Lt,
+    Op::Le,
+    Op::Gt,
+    Op::Ge,
+    Op::Eq,
+    Op::Ne,
+    Op::And,
+    Op::Or,
+];
 
 #[test]
 fn prints_each_expression(rt: HostRuntime) -> Result<(), Fail> {
@@ -132,45 +171,12 @@ fn prints_each_expression(rt: HostRuntime) -> Result<(), Fail> {
     let lie = Expr::Lit(Word::Bool(false));
     let element = Boxed::new(alloc, lie)?;
     built.signal(b"d", Expr::Has { set: 0, element })?;
-    let ops = [
-        Op::Add,
-        Op::Sub,
-        Op::Mul,
-        Op::Div,
-        Op::Rem,
-        Op::Lt,
-        Op::Le,
-        Op::Gt,
-        Op::Ge,
-        Op::Eq,
-        Op::Ne,
-        Op::And,
-        Op::Or,
-    ];
-    for op in ops {
+    for op in OPERATORS {
         built.signal(b"o", binary(alloc, int(1), op, int(-2))?)?;
     }
-    let text = b"set s: bool;\n\
-        signal a = not(true);\n\
-        signal b = recover(fault(100), -9223372036854775808);\n\
-        signal c = size(s);\n\
-        signal d = has(s, false);\n\
-        signal o = (1 + -2);\n\
-        signal o = (1 - -2);\n\
-        signal o = (1 * -2);\n\
-        signal o = (1 / -2);\n\
-        signal o = (1 % -2);\n\
-        signal o = (1 < -2);\n\
-        signal o = (1 <= -2);\n\
-        signal o = (1 > -2);\n\
-        signal o = (1 >= -2);\n\
-        signal o = (1 == -2);\n\
-        signal o = (1 != -2);\n\
-        signal o = (1 and -2);\n\
-        signal o = (1 or -2);\n";
     let decls = built.decls;
     let printed = print_program(alloc, &Program { decls })?;
-    assert_eq!(rt; printed.as_slice(), text.as_slice());
+    assert_eq!(rt; printed.as_slice(), EXPRESSIONS);
     Ok(())
 }
 

@@ -275,53 +275,55 @@ fn programs_are_refused(rt: HostRuntime) -> Result<(), TestFail> {
     Ok(())
 }
 
+/// Program parts, and why each is refused.
+const UNEXPECTED: [(&[u8], &[u8]); 32] = [
+    (b"x", b"unexpected token at 0"),
+    (b"var x: int = 1 in 0;", b"unexpected token at 18"),
+    (
+        b"fold n: int = 0 on e do self in 5;",
+        b"unexpected token at 32",
+    ),
+    (b"signal s = fault(1000);", b"unexpected token at 17"),
+    (b"signal s = - 9223372036854775809;", b"no token at 13"),
+    (b"signal s = 1 == 2 == 3;", b"unexpected token at 18"),
+    (b"event e = map(", b"unexpected token at 14"),
+    (b"event e: ", b"unexpected token at 9"),
+    (b"var x: int = -", b"unexpected token at 14"),
+    (b"var x: int = 1 in", b"unexpected token at 17"),
+    (b"fold n: int = 0 on e do", b"unexpected token at 23"),
+    (b"signal s = (1", b"unexpected token at 13"),
+    (b"signal s = recover(1,", b"unexpected token at 21"),
+    (b"signal s = fault(", b"unexpected token at 17"),
+    (b"signal s = has(t, 1", b"unexpected token at 19"),
+    (b"device", b"unexpected token at 6"),
+    (b"device 1;", b"unexpected token at 7"),
+    (b"device a; ;", b"unexpected token at 10"),
+    (b"counter c: int;", b"unexpected token at 9"),
+    (b"var x: int = 1", b"unexpected token at 14"),
+    (b"var x: int = y + 1;", b"unexpected token at 15"),
+    (b"event e = map(x 1);", b"unexpected token at 16"),
+    (b"event e = either(x, 1);", b"unexpected token at 20"),
+    (b"fold n: int = 0 on e self;", b"unexpected token at 21"),
+    (b"signal s = 1 +;", b"unexpected token at 14"),
+    (b"signal s = (1;", b"unexpected token at 13"),
+    (b"signal s = if 1 then 2;", b"unexpected token at 22"),
+    (
+        b"signal s = 1 + if 1 then 2 else 3;",
+        b"unexpected token at 15",
+    ),
+    (b"signal s = fault(99);", b"unexpected token at 17"),
+    (b"signal s = has(t);", b"unexpected token at 16"),
+    (b"signal s = 1 in 1;", b"unexpected token at 13"),
+    (
+        b"signal s = 9223372036854775808;",
+        b"unexpected token at 11",
+    ),
+];
+
 #[test]
 fn unexpected_tokens_are_refused(rt: HostRuntime) -> Result<(), TestFail> {
     let alloc = rt.alloc();
-    let cases: [(&[u8], &[u8]); 32] = [
-        (b"x", b"unexpected token at 0"),
-        (b"var x: int = 1 in 0;", b"unexpected token at 18"),
-        (
-            b"fold n: int = 0 on e do self in 5;",
-            b"unexpected token at 32",
-        ),
-        (b"signal s = fault(1000);", b"unexpected token at 17"),
-        (b"signal s = - 9223372036854775809;", b"no token at 13"),
-        (b"signal s = 1 == 2 == 3;", b"unexpected token at 18"),
-        (b"event e = map(", b"unexpected token at 14"),
-        (b"event e: ", b"unexpected token at 9"),
-        (b"var x: int = -", b"unexpected token at 14"),
-        (b"var x: int = 1 in", b"unexpected token at 17"),
-        (b"fold n: int = 0 on e do", b"unexpected token at 23"),
-        (b"signal s = (1", b"unexpected token at 13"),
-        (b"signal s = recover(1,", b"unexpected token at 21"),
-        (b"signal s = fault(", b"unexpected token at 17"),
-        (b"signal s = has(t, 1", b"unexpected token at 19"),
-        (b"device", b"unexpected token at 6"),
-        (b"device 1;", b"unexpected token at 7"),
-        (b"device a; ;", b"unexpected token at 10"),
-        (b"counter c: int;", b"unexpected token at 9"),
-        (b"var x: int = 1", b"unexpected token at 14"),
-        (b"var x: int = y + 1;", b"unexpected token at 15"),
-        (b"event e = map(x 1);", b"unexpected token at 16"),
-        (b"event e = either(x, 1);", b"unexpected token at 20"),
-        (b"fold n: int = 0 on e self;", b"unexpected token at 21"),
-        (b"signal s = 1 +;", b"unexpected token at 14"),
-        (b"signal s = (1;", b"unexpected token at 13"),
-        (b"signal s = if 1 then 2;", b"unexpected token at 22"),
-        (
-            b"signal s = 1 + if 1 then 2 else 3;",
-            b"unexpected token at 15",
-        ),
-        (b"signal s = fault(99);", b"unexpected token at 17"),
-        (b"signal s = has(t);", b"unexpected token at 16"),
-        (b"signal s = 1 in 1;", b"unexpected token at 13"),
-        (
-            b"signal s = 9223372036854775808;",
-            b"unexpected token at 11",
-        ),
-    ];
-    for (input, why) in cases {
+    for (input, why) in UNEXPECTED {
         assert!(rt; is_refused(&rt, alloc, "check", input, why)?);
     }
     Ok(())
@@ -424,49 +426,51 @@ fn long_and_deep_programs_are_refused(rt: HostRuntime) -> Result<(), TestFail> {
     Ok(())
 }
 
+/// Program parts, and what `check` says of each.
+const CHECKED: [(&[u8], &[u8]); 10] = [
+    (
+        b"device a; var x: int = 9223372036854775807; var y: int = - 9223372036854775808 in 2; var z: int = 0 in 3;",
+        b"device a;\nvar x: int = 9223372036854775807 in 1;\nvar y: int = -9223372036854775808 in 2;\nvar z: int = 0 in 3;\n",
+    ),
+    (
+        b"device a; signal s = fault(999) + 1; signal t = 1 <= 2; signal u = 1 > 2;",
+        b"device a;\nsignal s = (fault(999) + 1);\nsignal t = (1 <= 2);\nsignal u = (1 > 2);\n",
+    ),
+    (
+        b"device a; signal s = 8 / 4 * 2 - 1 + 3; signal t = true or false and true or false;",
+        b"device a;\nsignal s = ((((8 / 4) * 2) - 1) + 3);\nsignal t = ((true or (false and true)) or false);\n",
+    ),
+    (
+        b"device a; signal s = 1 - 2 - 3; signal t = 1 + 2 * 3 < 4 and true or false; signal u = if true then - 1 else 2 + -0;",
+        b"device a;\nsignal s = ((1 - 2) - 3);\nsignal t = ((((1 + (2 * 3)) < 4) and true) or false);\nsignal u = (if true then -1 else (2 + 0));\n",
+    ),
+    (
+        b"device a; event e: int; event m = map(e, (arg) % 2); event f = filter(m, not(arg >= 1)); event g = either(m, f); var v: bool = false in 4; event d = changed(v);",
+        b"device a;\nevent e: int;\nevent m = map(e, (arg % 2));\nevent f = filter(m, not((arg >= 1)));\nevent g = either(m, f);\nvar v: bool = false in 4;\nevent d = changed(v);\n",
+    ),
+    (
+        b"device a; set t: sym; symbol red; signal n = size(t) / 2; signal h = has(t, red) == recover(fault(100), 1 != 2);",
+        b"device a;\nset t: sym;\nsymbol red;\nsignal n = (size(t) / 2);\nsignal h = (has(t, red) == recover(fault(100), (1 != 2)));\n",
+    ),
+    (
+        b"device a; var x:int=-3; signal s=if x<0 then 0-x else x;",
+        b"device a;\nvar x: int = -3 in 1;\nsignal s = (if (x < 0) then (0 - x) else x);\n",
+    ),
+    (b"device a;\n---\nget a a\n", b"device a;\n"),
+    (
+        b"device a; device b; symbol red; register m: sym = red; set t: int; event e: int;",
+        b"device a;\ndevice b;\nsymbol red;\nregister m: sym = red;\nset t: int;\nevent e: int;\n",
+    ),
+    (
+        b"device a; event e: int; fold n: int = 0 on e do self + arg in 2; counter c; event d = changed(c); signal z = fault(100) == n;",
+        b"device a;\nevent e: int;\nfold n: int = 0 on e do (self + arg) in 2;\ncounter c;\nevent d = changed(c);\nsignal z = (fault(100) == n);\n",
+    ),
+];
+
 #[test]
 fn programs_are_checked(rt: HostRuntime) -> Result<(), TestFail> {
     let alloc = rt.alloc();
-    let cases: [(&[u8], &[u8]); 10] = [
-        (
-            b"device a; var x: int = 9223372036854775807; var y: int = - 9223372036854775808 in 2; var z: int = 0 in 3;",
-            b"device a;\nvar x: int = 9223372036854775807 in 1;\nvar y: int = -9223372036854775808 in 2;\nvar z: int = 0 in 3;\n",
-        ),
-        (
-            b"device a; signal s = fault(999) + 1; signal t = 1 <= 2; signal u = 1 > 2;",
-            b"device a;\nsignal s = (fault(999) + 1);\nsignal t = (1 <= 2);\nsignal u = (1 > 2);\n",
-        ),
-        (
-            b"device a; signal s = 8 / 4 * 2 - 1 + 3; signal t = true or false and true or false;",
-            b"device a;\nsignal s = ((((8 / 4) * 2) - 1) + 3);\nsignal t = ((true or (false and true)) or false);\n",
-        ),
-        (
-            b"device a; signal s = 1 - 2 - 3; signal t = 1 + 2 * 3 < 4 and true or false; signal u = if true then - 1 else 2 + -0;",
-            b"device a;\nsignal s = ((1 - 2) - 3);\nsignal t = ((((1 + (2 * 3)) < 4) and true) or false);\nsignal u = (if true then -1 else (2 + 0));\n",
-        ),
-        (
-            b"device a; event e: int; event m = map(e, (arg) % 2); event f = filter(m, not(arg >= 1)); event g = either(m, f); var v: bool = false in 4; event d = changed(v);",
-            b"device a;\nevent e: int;\nevent m = map(e, (arg % 2));\nevent f = filter(m, not((arg >= 1)));\nevent g = either(m, f);\nvar v: bool = false in 4;\nevent d = changed(v);\n",
-        ),
-        (
-            b"device a; set t: sym; symbol red; signal n = size(t) / 2; signal h = has(t, red) == recover(fault(100), 1 != 2);",
-            b"device a;\nset t: sym;\nsymbol red;\nsignal n = (size(t) / 2);\nsignal h = (has(t, red) == recover(fault(100), (1 != 2)));\n",
-        ),
-        (
-            b"device a; var x:int=-3; signal s=if x<0 then 0-x else x;",
-            b"device a;\nvar x: int = -3 in 1;\nsignal s = (if (x < 0) then (0 - x) else x);\n",
-        ),
-        (b"device a;\n---\nget a a\n", b"device a;\n"),
-        (
-            b"device a; device b; symbol red; register m: sym = red; set t: int; event e: int;",
-            b"device a;\ndevice b;\nsymbol red;\nregister m: sym = red;\nset t: int;\nevent e: int;\n",
-        ),
-        (
-            b"device a; event e: int; fold n: int = 0 on e do self + arg in 2; counter c; event d = changed(c); signal z = fault(100) == n;",
-            b"device a;\nevent e: int;\nfold n: int = 0 on e do (self + arg) in 2;\ncounter c;\nevent d = changed(c);\nsignal z = (fault(100) == n);\n",
-        ),
-    ];
-    for (input, text) in cases {
+    for (input, text) in CHECKED {
         let ran = run_with(&rt, alloc, &["check"], input, &[])?;
         assert!(rt; is_ran(&ran, Status::Done, text));
     }

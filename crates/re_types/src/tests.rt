@@ -350,93 +350,105 @@ fn the_first_fault_is_named(rt: HostRuntime) -> Result<(), Fail> {
     Ok(())
 }
 
+/// What stands before each declaration that is tried.
+const DECLARED: &[u8] = b"device A symbol R var X int 1 var B bool true event E int counter C set M int register Q sym R ";
+
+/// Declarations that keep the kind rules.
+const RIGHT_KINDS: [&[u8]; 29] = [
+    b"signal S + X C",
+    b"signal S / 1 fault",
+    b"signal S < X 2",
+    b"signal S = Q R",
+    b"signal S = fault B",
+    b"signal S = fault fault",
+    b"signal S & B not B",
+    b"signal S if B fault X",
+    b"signal S if fault R Q",
+    b"signal S recover fault R",
+    b"signal S size M",
+    b"signal S has M fault",
+    b"signal S R",
+    b"event F changed Q",
+    b"event F map E = arg 1",
+    b"event F filter E < arg X",
+    b"event F filter E fault",
+    b"event F either E E",
+    b"fold F bool true E & self = arg 1",
+    b"fold F sym R E fault",
+    b"event F int fold G int 0 F + self arg",
+    b"event F changed B event G map F arg signal H B",
+    b"event F changed B event G filter F arg",
+    b"fold F int 0 E + self 1 event G changed F",
+    b"var Y sym R",
+    b"register Y bool true",
+    b"set Y sym signal S has Y R",
+    b"signal S X signal T + S S",
+    b"event F map E arg event G either E F",
+];
+
+/// Declarations that break a kind rule.
+const WRONG_KINDS: [&[u8]; 40] = [
+    b"signal S + X B",
+    b"signal S + B B",
+    b"signal S / R 1",
+    b"signal S < X B",
+    b"signal S < B B",
+    b"signal S = X B",
+    b"signal S & X B",
+    b"signal S & B X",
+    b"signal S not X",
+    b"signal S if X 1 2",
+    b"signal S if B 1 true",
+    b"signal S recover X B",
+    b"signal S fault",
+    b"signal S recover fault fault",
+    b"signal S if B fault fault",
+    b"signal S arg",
+    b"signal S self",
+    b"signal S A",
+    b"signal S E",
+    b"signal S M",
+    b"signal S size X",
+    b"signal S has X 1",
+    b"signal S has M true",
+    b"event F changed E",
+    b"event F changed M",
+    b"event F changed R",
+    b"event F map X 1",
+    b"event F map E fault",
+    b"event F map E self",
+    b"event F map E + arg B",
+    b"event F filter X B",
+    b"event F filter E arg",
+    b"event F filter E self",
+    b"event F either E X",
+    b"event F changed B event G either E F",
+    b"fold F int true E 1",
+    b"fold F int 0 X 1",
+    b"fold F int 0 E B",
+    b"var Y int R",
+    b"register Y sym X",
+];
+
+/// The fault of a declaration behind those that are declared.
+fn fault_behind_declared(alloc: Global, text: &[u8]) -> Result<Option<TypeFault>, Fail> {
+    let mut whole = DECLARED.to_vec(alloc)?;
+    whole.extend_from_slice(text)?;
+    fault(alloc, &whole)
+}
+
 #[test]
-fn kind_rules_hold(rt: HostRuntime) -> Result<(), Fail> {
-    let alloc = rt.alloc();
-    let start =
-        b"device A symbol R var X int 1 var B bool true event E int counter C set M int register Q sym R ";
-    let right: [&[u8]; 29] = [
-        b"signal S + X C",
-        b"signal S / 1 fault",
-        b"signal S < X 2",
-        b"signal S = Q R",
-        b"signal S = fault B",
-        b"signal S = fault fault",
-        b"signal S & B not B",
-        b"signal S if B fault X",
-        b"signal S if fault R Q",
-        b"signal S recover fault R",
-        b"signal S size M",
-        b"signal S has M fault",
-        b"signal S R",
-        b"event F changed Q",
-        b"event F map E = arg 1",
-        b"event F filter E < arg X",
-        b"event F filter E fault",
-        b"event F either E E",
-        b"fold F bool true E & self = arg 1",
-        b"fold F sym R E fault",
-        b"event F int fold G int 0 F + self arg",
-        b"event F changed B event G map F arg signal H B",
-        b"event F changed B event G filter F arg",
-        b"fold F int 0 E + self 1 event G changed F",
-        b"var Y sym R",
-        b"register Y bool true",
-        b"set Y sym signal S has Y R",
-        b"signal S X signal T + S S",
-        b"event F map E arg event G either E F",
-    ];
-    for text in right {
-        let mut whole = start.to_vec(alloc)?;
-        whole.extend_from_slice(text)?;
-        assert_eq!(rt; fault(alloc, &whole)?, None);
+fn right_kinds_pass(rt: HostRuntime) -> Result<(), Fail> {
+    for text in RIGHT_KINDS {
+        assert_eq!(rt; fault_behind_declared(rt.alloc(), text)?, None);
     }
-    let wrong: [&[u8]; 40] = [
-        b"signal S + X B",
-        b"signal S + B B",
-        b"signal S / R 1",
-        b"signal S < X B",
-        b"signal S < B B",
-        b"signal S = X B",
-        b"signal S & X B",
-        b"signal S & B X",
-        b"signal S not X",
-        b"signal S if X 1 2",
-        b"signal S if B 1 true",
-        b"signal S recover X B",
-        b"signal S fault",
-        b"signal S recover fault fault",
-        b"signal S if B fault fault",
-        b"signal S arg",
-        b"signal S self",
-        b"signal S A",
-        b"signal S E",
-        b"signal S M",
-        b"signal S size X",
-        b"signal S has X 1",
-        b"signal S has M true",
-        b"event F changed E",
-        b"event F changed M",
-        b"event F changed R",
-        b"event F map X 1",
-        b"event F map E fault",
-        b"event F map E self",
-        b"event F map E + arg B",
-        b"event F filter X B",
-        b"event F filter E arg",
-        b"event F filter E self",
-        b"event F either E X",
-        b"event F changed B event G either E F",
-        b"fold F int true E 1",
-        b"fold F int 0 X 1",
-        b"fold F int 0 E B",
-        b"var Y int R",
-        b"register Y sym X",
-    ];
-    for text in wrong {
-        let mut whole = start.to_vec(alloc)?;
-        whole.extend_from_slice(text)?;
-        let found = fault(alloc, &whole)?;
+    Ok(())
+}
+
+#[test]
+fn wrong_kinds_are_refused(rt: HostRuntime) -> Result<(), Fail> {
+    for text in WRONG_KINDS {
+        let found = fault_behind_declared(rt.alloc(), text)?;
         assert!(rt;
             matches!(found, Some(TypeFault::Kind(8 | 9))),
             "in {text:?}: {found:?}"

@@ -80,44 +80,46 @@ fn many(alloc: Global, count: u32, last: &[u8]) -> Result<Vec<u8>, Fail> {
     Ok(text)
 }
 
+/// Turns, and the first fault of each.
+const FIRST_FAULTS: [(&[u8], Option<AdmitFault>); 30] = [
+    (b"put X 5", None),
+    (b"put X 1 put Y 2", None),
+    (b"fire E 2", None),
+    (b"fire F true", None),
+    (b"add C 1 add C 1", None),
+    (b"insert M R remove M R", None),
+    (b"write Q true write Q true", None),
+    (b"put Z 1", Some(AdmitFault::Unknown)),
+    (b"put X Z", Some(AdmitFault::Unknown)),
+    (b"add Z 1", Some(AdmitFault::Unknown)),
+    (b"put S 1", Some(AdmitFault::Kind)),
+    (b"put X R", Some(AdmitFault::Kind)),
+    (b"put X true", Some(AdmitFault::Kind)),
+    (b"put A 1", Some(AdmitFault::Kind)),
+    (b"put E 1", Some(AdmitFault::Kind)),
+    (b"fire D 1", Some(AdmitFault::Kind)),
+    (b"fire X 1", Some(AdmitFault::Kind)),
+    (b"fire F 1", Some(AdmitFault::Kind)),
+    (b"add X 1", Some(AdmitFault::Kind)),
+    (b"insert C 1", Some(AdmitFault::Kind)),
+    (b"insert M 1", Some(AdmitFault::Kind)),
+    (b"remove Q true", Some(AdmitFault::Kind)),
+    // a declared name that is no symbol
+    (b"remove M X", Some(AdmitFault::Kind)),
+    (b"write M R", Some(AdmitFault::Kind)),
+    (b"write Q 1", Some(AdmitFault::Kind)),
+    (b"put X 1 put X 2", Some(AdmitFault::Twice)),
+    (b"fire E 1 put X 1 fire E 1", Some(AdmitFault::Twice)),
+    (b"", Some(AdmitFault::Empty)),
+    // of several, the first in the order of the faults
+    (b"put S 1 put Z 1", Some(AdmitFault::Unknown)),
+    (b"put X 1 put X 2 put S 1", Some(AdmitFault::Kind)),
+];
+
 #[test]
 fn the_first_fault_of_a_turn_is_named(rt: HostRuntime) -> Result<(), Fail> {
     let alloc = rt.alloc();
-    let cases: [(&[u8], Option<AdmitFault>); 30] = [
-        (b"put X 5", None),
-        (b"put X 1 put Y 2", None),
-        (b"fire E 2", None),
-        (b"fire F true", None),
-        (b"add C 1 add C 1", None),
-        (b"insert M R remove M R", None),
-        (b"write Q true write Q true", None),
-        (b"put Z 1", Some(AdmitFault::Unknown)),
-        (b"put X Z", Some(AdmitFault::Unknown)),
-        (b"add Z 1", Some(AdmitFault::Unknown)),
-        (b"put S 1", Some(AdmitFault::Kind)),
-        (b"put X R", Some(AdmitFault::Kind)),
-        (b"put X true", Some(AdmitFault::Kind)),
-        (b"put A 1", Some(AdmitFault::Kind)),
-        (b"put E 1", Some(AdmitFault::Kind)),
-        (b"fire D 1", Some(AdmitFault::Kind)),
-        (b"fire X 1", Some(AdmitFault::Kind)),
-        (b"fire F 1", Some(AdmitFault::Kind)),
-        (b"add X 1", Some(AdmitFault::Kind)),
-        (b"insert C 1", Some(AdmitFault::Kind)),
-        (b"insert M 1", Some(AdmitFault::Kind)),
-        (b"remove Q true", Some(AdmitFault::Kind)),
-        // a declared name that is no symbol
-        (b"remove M X", Some(AdmitFault::Kind)),
-        (b"write M R", Some(AdmitFault::Kind)),
-        (b"write Q 1", Some(AdmitFault::Kind)),
-        (b"put X 1 put X 2", Some(AdmitFault::Twice)),
-        (b"fire E 1 put X 1 fire E 1", Some(AdmitFault::Twice)),
-        (b"", Some(AdmitFault::Empty)),
-        // of several, the first in the order of the faults
-        (b"put S 1 put Z 1", Some(AdmitFault::Unknown)),
-        (b"put X 1 put X 2 put S 1", Some(AdmitFault::Kind)),
-    ];
-    for (text, wanted) in cases {
+    for (text, wanted) in FIRST_FAULTS {
         let found = fault(alloc, text)?;
         assert!(rt; found == wanted, "in {text:?}: {found:?}");
     }
