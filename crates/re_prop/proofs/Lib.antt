@@ -2,7 +2,6 @@ pub mod Along
 pub mod Before
 pub mod Cells
 pub mod Choosing
-pub mod Distinct
 pub mod Entering
 pub mod Fits
 pub mod Givens
@@ -10,4 +9,5 @@ pub mod Consequences
 pub mod Outcomes
 pub mod Putting
 pub mod Samples
+pub mod SetSizes
 pub mod Uses

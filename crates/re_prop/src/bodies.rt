@@ -1,35 +1,18 @@
 //! What declarations are, and their places among the vars and folds and among the replicated cells.
 ghost use Rattle.std.specs.Prelude.{◌≡◌, ◌≤◌, length, count_by};
-ghost use Rattle.re_terms.specs.Programs.{is_replicated_body, is_replicated as is_replicated_decl};
+ghost use Rattle.re_terms.specs.Programs.{is_replicated as is_replicated_decl};
 ghost use Rattle.re_terms.specs.Propagation.{is_signal_body};
-ghost use Rattle.re_terms.specs.Cells.{is_cell_body, is_cell as is_cell_decl, cell_place as place_of_cell};
+ghost use Rattle.re_terms.specs.Cells.{is_cell as is_cell_decl, cell_place as place_of_cell};
 ghost use Rattle.re_terms.specs.SignalWords.{replicated_place as place_of_replicated};
 ghost use Rattle.re_prop.specs.Reading.{is_valued_body};
 
 use re_terms::{Body, Decl};
-
-/// A var or a fold.
-pub fn is_cell(body: &Body) -> bool
-    ensures { result ≡ is_cell_body body.now }
-{
-    matches!(body, Body::Var { .. } | Body::Fold { .. })
-}
 
 /// A signal.
 pub fn is_signal(body: &Body) -> bool
     ensures { result ≡ is_signal_body body.now }
 {
     matches!(body, Body::Signal { .. })
-}
-
-/// A counter, a set or a register.
-pub fn is_replicated(body: &Body) -> bool
-    ensures { result ≡ is_replicated_body body.now }
-{
-    matches!(
-        body,
-        Body::Counter | Body::Set { .. } | Body::Register { .. }
-    )
 }
 
 /// A declaration that has a word.
@@ -50,26 +33,17 @@ pub fn is_valued(body: &Body) -> bool
 fn cell_count(decls: &[Decl]) -> usize
     ensures { result ≡ count_by is_cell_decl decls.now }
 {
-    let mut found = 0;
-    for decl in decls {
-        if is_cell(&decl.body) {
-            found += 1;
-        }
-    }
-    found
+    decls.iter().filter(|decl| decl.body.is_cell()).count()
 }
 
 /// How many replicated cells there are.
 fn replicated_count(decls: &[Decl]) -> usize
     ensures { result ≡ count_by is_replicated_decl decls.now }
 {
-    let mut found = 0;
-    for decl in decls {
-        if is_replicated(&decl.body) {
-            found += 1;
-        }
-    }
-    found
+    decls
+        .iter()
+        .filter(|decl| decl.body.is_replicated())
+        .count()
 }
 
 /// The place of a var's or fold's word in a state.

@@ -8,7 +8,7 @@ ghost use Rattle.re_terms.specs.SignalWords.{no_word};
 ghost use Rattle.re_terms.specs.WordOrder.{same_word};
 ghost use Rattle.re_prop.specs.Chosen.{chosen_words};
 
-use crate::bodies::{is_cell, is_signal};
+use crate::bodies::is_signal;
 use crate::view::word_in;
 use re_terms::{Decl, Put, Seq, Word, same_word};
 use std::alloc::{AllocError, Global};
@@ -34,7 +34,7 @@ pub fn chosen(alloc: Global, marks: &[bool], words: &[Word]) -> Result<Seq<Put>,
 fn is_changed_cell(decl: &Decl, old: Word, new: Word) -> bool
     ensures { result ≡ (is_cell_body decl.now.body && not (same_word old new)) }
 {
-    is_cell(&decl.body) && !same_word(old, new)
+    decl.body.is_cell() && !same_word(old, new)
 }
 
 /// A signal whose words differ.

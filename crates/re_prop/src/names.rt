@@ -1,7 +1,9 @@
 //! What an expression is evaluated over.
+ghost use Rattle.std.proofs.Props.{props};
 ghost use Rattle.std.specs.Prelude.{◌≡◌, map, Some, slice_get, slice_index_or};
 ghost use Rattle.re_terms.specs.SignalWords.{no_word, replicated_place as place_of};
 ghost use Rattle.re_terms.specs.Views.{cell_size, cell_has};
+ghost use Rattle.re_prop.specs.Sets.{HasSets};
 
 use crate::bodies::replicated_place;
 use crate::view::{has_at, word_in};
@@ -15,6 +17,7 @@ pub struct Names<'a> {
     pub words: &'a [Word],
     pub cells: &'a [RCell],
     pub sizes: &'a [u32],
+    ghost sets: { HasSets cells.now } by { Prim.hlevel props },
     ghost sized: { sizes.now ≡ map (λ c. cell_size (Some c)) cells.now },
 }
 

@@ -1,45 +1,21 @@
 //! How many elements sets have.
-ghost use Rattle.std.specs.Prelude.{◌≡◌, ◌<◌, ◌≤◌, ◌-◌, true, not, map, Some, length, slice_get, slice_index_or, IfOk};
-ghost use Rattle.std.specs.List.Sorted.{IsStrictlySortedBy};
-ghost use Rattle.re_terms.specs.declared.replicated.Pair.{Pair};
+ghost use Rattle.std.specs.Prelude.{◌≡◌, map, Some, slice_get, IfOk};
 ghost use Rattle.re_terms.specs.Views.{cell_size};
-ghost use Rattle.re_terms.specs.WordOrder.{elements_of, pair_cmp, same_word};
 ghost use Rattle.re_prop.specs.Sets.{HasSets};
 
-use re_terms::{Pair, RCell, same_word};
+use re_awset::size;
+use re_terms::RCell;
 use std::alloc::{AllocError, Global};
 
-/// Whether the pair at a place is the first one of its element: those of one element stand side by side.
-fn is_first(pairs: &[Pair], i: usize) -> bool
-    requires { i < length pairs.now }
-    ensures start { i ≡ 0 → result ≡ true }
-    ensures later { (d : Pair) → 0 < i → result ≡ not (same_word (slice_index_or pairs.now (i - 1) d).element (slice_index_or pairs.now i d).element) }
-{
-    i == 0 || !same_word(pairs[i - 1].element, pairs[i].element)
-}
-
-/// How many elements a set has.
-pub fn size(pairs: &[Pair]) -> u32
-    requires ordered { IsStrictlySortedBy pair_cmp pairs.now }
-    requires few { length pairs.now ≤ 1024 }
-    ensures { result ≡ length (elements_of pairs.now) }
-{
-    let mut found = 0;
-    'counting: for i in 0..pairs.len() {
-        if is_first(pairs, i) {
-            found += 1;
-        }
-    }
-    found
-}
-
 /// How many elements the set at a place has, and 0 where there is none.
+///
+/// The condition is that the pairs of each set ascend, at most 1,024.
 pub fn size_at(cells: &[RCell], place: usize) -> u32
     requires { HasSets cells.now }
     ensures { result ≡ cell_size (slice_get cells.now place) }
 {
     match cells.get(place) {
-        Some(RCell::Set(pairs)) => size(pairs.as_slice()),
+        Some(RCell::Set(pairs)) => size(pairs),
         _ => 0,
     }
 }

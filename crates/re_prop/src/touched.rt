@@ -5,7 +5,7 @@ ghost use Rattle.std.specs.List.{list_any};
 ghost use Rattle.re_terms.specs.Listed.{plain};
 ghost use Rattle.re_prop.specs.Touched.{is_put as is_put_for, is_same_pair as are_same, is_same_cell as has_same_content, is_same_content, touched as touched_by, touches as is_touched};
 
-use crate::bodies::{is_replicated, replicated_place};
+use crate::bodies::replicated_place;
 use re_terms::{Decl, Entry, Pair, Program, Put, RCell, RState, RepOp, Seq, State, same_word};
 use std::alloc::{AllocError, Global};
 
@@ -82,11 +82,11 @@ fn touches(p: &Program, s: &State, entry: &Entry, after: &RState, id: usize, dec
         Entry::Turn(turn) => {
             is_put(turn.sets.as_slice(), id)
                 || is_put(turn.fires.as_slice(), id)
-                || (is_replicated(&decl.body) && is_operated(turn.ops.as_slice(), place))
+                || (decl.body.is_replicated() && is_operated(turn.ops.as_slice(), place))
         }
         Entry::Merge(_) => {
             let (old, new) = (s.rep.cells.as_slice(), after.cells.as_slice());
-            is_replicated(&decl.body) && !is_same_at(old, new, place)
+            decl.body.is_replicated() && !is_same_at(old, new, place)
         }
     }
 }

@@ -1,4 +1,5 @@
 //! What each form of declaration has after an entry.
+ghost use Rattle.std.proofs.Props.{props};
 ghost use Rattle.std.specs.Prelude.{◌≡◌, ◌+◌, ◌≤◌, ◌<◌, true, false, map, Some, None, is_some, option_map, option_and_then, slice_get, slice_index_or};
 ghost use Rattle.std.specs.Option.{option_map_or};
 ghost use Rattle.re_terms.specs.Meaning.{meaning};
@@ -9,6 +10,7 @@ ghost use Rattle.re_terms.specs.Views.{cell_size, view_of};
 ghost use Rattle.re_eval.specs.Given.{is_given};
 ghost use Rattle.re_prop.specs.Effects.{effects_at, words_before};
 ghost use Rattle.re_prop.specs.Evaluated.{is_given_body};
+ghost use Rattle.re_prop.specs.Sets.{HasSets};
 
 use crate::bodies::replicated_place;
 use crate::effects::Effects;
@@ -83,6 +85,7 @@ pub struct Walk<'a> {
     /// The words of all declarations before the entry.
     pub before: &'a [Word],
     ghost known: { before.now ≡ words_before program.now state.now },
+    ghost sets: { HasSets after.now.cells.items } by { Prim.hlevel props },
     ghost sized: { sizes.now ≡ map (λ c. cell_size (Some c)) after.now.cells.items },
 }
 

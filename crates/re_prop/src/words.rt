@@ -10,6 +10,7 @@ ghost use Rattle.re_terms.specs.Views.{cell_size, view_of};
 ghost use Rattle.re_prop.specs.Caching.{signal_words};
 ghost use Rattle.re_prop.specs.Effects.{words_before};
 ghost use Rattle.re_prop.specs.Evaluated.{is_given_body};
+ghost use Rattle.re_prop.specs.Sets.{HasSets};
 
 use crate::bodies::{cell_place, is_signal, replicated_place};
 use crate::cache::Cache;
@@ -75,6 +76,7 @@ fn computed<L: Ledger>(
 ) -> Word
     requires within { id ≤ length p.now.decls.items }
     requires given { is_given_body decl.now.body ≡ true }
+    requires sets { HasSets s.now.rep.cells.items }
     requires sizes { sizes.now ≡ map (λ c. cell_size (Some c)) s.now.rep.cells.items }
     ensures { result ≡ body_word p.now.decls.items s.now.words.items (view_of s.now.rep) id decl.now.body (λ name. slice_index_or words.now name no_word) }
 {
@@ -101,6 +103,7 @@ fn all<L: Ledger>(
     blank: Blank,
 ) -> Result<Vec<Word>, AllocError>
     requires program { IsProgram p.now }
+    requires sets { HasSets s.now.rep.cells.items }
     requires sizes { sizes.now ≡ map (λ c. cell_size (Some c)) s.now.rep.cells.items }
     requires name { blank.name ≡ L.name }
     requires parts { blank.parts ≡ L.parts }

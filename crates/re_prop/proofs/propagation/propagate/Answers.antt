@@ -1,8 +1,10 @@
-use Rattle.std.proofs.Common.{ap, ◌∙◌}
+use Rattle.std.proofs.Common.{ap, map, refl, ◌∙◌}
+use Rattle.std.specs.Prelude.{Some}
 use Rattle.re_terms.specs.Cells.{is_cell}
 use Rattle.re_terms.specs.Listed.{plain}
 use Rattle.re_terms.specs.Propagation.{is_cell_at, is_signal_at, is_signal_body}
 use Rattle.re_terms.specs.Shapes.{shape_of}
+use Rattle.re_terms.specs.Views.{cell_size}
 use Rattle.re_prop.proofs.Choosing.{differs_at}
 use Rattle.re_prop.proofs.Fits.{sets_of_fit}
 use Rattle.re_prop.proofs.Uses.{differing_is, marks_few}
@@ -10,6 +12,12 @@ use Rattle.re_prop.proofs.propagation.propagate.Goals as goal
 
 pub sizes-requires : goal.sizes-requires
 sizes-requires g c = sets_of_fit (shape_of c.args.p.now) c.args.after.now c.as_slice.result.now c.as_slice.ensures c.requires.after
+
+pub invariant_of-walk-clause-sets : goal.invariant_of-walk-clause-sets
+invariant_of-walk-clause-sets g c = sets_of_fit (shape_of c.args.p.now) c.args.after.now c.args.after.now.cells.items refl c.requires.after
+
+pub invariant_of-walk-clause-sized : goal.invariant_of-walk-clause-sized
+invariant_of-walk-clause-sized g c = c.deref.ensures.value ∙ c.in_ok-sizes.ensures ∙ ap (map (λ r. cell_size (Some r))) c.as_slice.ensures
 
 pub chosen-requires : goal.chosen-requires
 chosen-requires g c = marks_few (differs_at (is_cell_at c.as_slice-decls.result.now) c.deref-3.result.now c.deref-4.result.now) c.args.p.now.decls.items c.as_slice-decls.result.now c.in_ok-changed.changed.items c.deref-7.result.now c.requires.program.few c.as_slice-decls.ensures c.in_ok-changed.ensures c.deref-7.ensures.value

@@ -1,5 +1,5 @@
 use Rattle.std.proofs.Common.{◌∙◌}
-use Rattle.re_prop.proofs.Distinct.{sizes_step}
+use Rattle.re_prop.proofs.SetSizes.{sizes_step}
 use Rattle.re_prop.proofs.sizes.sizes.Goals as goal
 
 pub sizing-preserved : goal.sizing-preserved
