@@ -1,10 +1,15 @@
 -- The set stands at the place that is kept.
 use Rattle.std.proofs.Common.{ap, ◌∙◌}
 use Rattle.std.specs.Prelude.{slice_get}
+use Rattle.re_terms.specs.Shapes.{shape_of}
 use Rattle.re_terms.specs.Views.{View, cell_has, view_of}
+use Rattle.re_prop.proofs.Fits.{sets_of_fit}
 use Rattle.re_device.specs.Device.{DeviceState, told_of}
 use Rattle.re_device.proofs.Reading.{replicated_at}
 use Rattle.re_device.proofs.device.Device.contains.Goals as goal
+
+pub has_at-requires : goal.has_at-requires
+has_at-requires c = sets_of_fit (shape_of c.self.inside.program) c.self.inside.state.rep c.as_slice.result.now c.as_slice.ensures c.self.invariant.rep
 
 pub returns : goal.returns
 returns c =
