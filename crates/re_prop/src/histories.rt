@@ -157,278 +157,288 @@ fn is_as(row: &Row<'_>, prepared: &Prepared, words: &[Word]) -> bool {
     are(&prepared.changes, row.changes) && are(&prepared.signals, row.signals) && words == row.words
 }
 
+/// The turns of the diamond that set its var to 5, to 5 again, and to 6.
+const SUM_TURNS: [Row<'static>; 3] = [
+    Row {
+        number: 5,
+        changes: &[(1, Word::Int(5)), (6, Word::Int(1)), (8, Word::Int(17))],
+        signals: &[(2, Word::Int(6)), (3, Word::Int(10)), (4, Word::Int(16))],
+        words: &[
+            Word::Int(0),
+            Word::Int(5),
+            Word::Int(6),
+            Word::Int(10),
+            Word::Int(16),
+            Word::Int(0),
+            Word::Int(1),
+            Word::Int(0),
+            Word::Int(17),
+        ],
+    },
+    // The var is set to its own word.
+    Row {
+        number: 5,
+        changes: &[],
+        signals: &[],
+        words: &[
+            Word::Int(0),
+            Word::Int(5),
+            Word::Int(6),
+            Word::Int(10),
+            Word::Int(16),
+            Word::Int(0),
+            Word::Int(1),
+            Word::Int(0),
+            Word::Int(17),
+        ],
+    },
+    Row {
+        number: 6,
+        changes: &[(1, Word::Int(6)), (6, Word::Int(2)), (8, Word::Int(21))],
+        signals: &[(2, Word::Int(7)), (3, Word::Int(12)), (4, Word::Int(19))],
+        words: &[
+            Word::Int(0),
+            Word::Int(6),
+            Word::Int(7),
+            Word::Int(12),
+            Word::Int(19),
+            Word::Int(0),
+            Word::Int(2),
+            Word::Int(0),
+            Word::Int(21),
+        ],
+    },
+];
+
 #[test]
 fn counts_changes_of_a_sum(rt: HostRuntime) -> Result<(), Fail> {
-    let rows = [
-        Row {
-            number: 5,
-            changes: &[(1, Word::Int(5)), (6, Word::Int(1)), (8, Word::Int(17))],
-            signals: &[(2, Word::Int(6)), (3, Word::Int(10)), (4, Word::Int(16))],
-            words: &[
-                Word::Int(0),
-                Word::Int(5),
-                Word::Int(6),
-                Word::Int(10),
-                Word::Int(16),
-                Word::Int(0),
-                Word::Int(1),
-                Word::Int(0),
-                Word::Int(17),
-            ],
-        },
-        // The var is set to its own word.
-        Row {
-            number: 5,
-            changes: &[],
-            signals: &[],
-            words: &[
-                Word::Int(0),
-                Word::Int(5),
-                Word::Int(6),
-                Word::Int(10),
-                Word::Int(16),
-                Word::Int(0),
-                Word::Int(1),
-                Word::Int(0),
-                Word::Int(17),
-            ],
-        },
-        Row {
-            number: 6,
-            changes: &[(1, Word::Int(6)), (6, Word::Int(2)), (8, Word::Int(21))],
-            signals: &[(2, Word::Int(7)), (3, Word::Int(12)), (4, Word::Int(19))],
-            words: &[
-                Word::Int(0),
-                Word::Int(6),
-                Word::Int(7),
-                Word::Int(12),
-                Word::Int(19),
-                Word::Int(0),
-                Word::Int(2),
-                Word::Int(0),
-                Word::Int(21),
-            ],
-        },
-    ];
-    let other = unexpected(rt.alloc(), 0, 1, &rows)?;
+    let other = unexpected(rt.alloc(), 0, 1, &SUM_TURNS)?;
     assert_eq!(rt; other, None);
     Ok(())
 }
+
+/// The turns that set a counted var to its own word 1, to 2 and to 3.
+const VAR_TURNS: [Row<'static>; 3] = [
+    Row {
+        number: 1,
+        changes: &[],
+        signals: &[],
+        words: &[Word::Int(0), Word::Int(1), Word::Int(0), Word::Int(0)],
+    },
+    Row {
+        number: 2,
+        changes: &[(1, Word::Int(2)), (3, Word::Int(1))],
+        signals: &[],
+        words: &[Word::Int(0), Word::Int(2), Word::Int(0), Word::Int(1)],
+    },
+    Row {
+        number: 3,
+        changes: &[(1, Word::Int(3)), (3, Word::Int(2))],
+        signals: &[],
+        words: &[Word::Int(0), Word::Int(3), Word::Int(0), Word::Int(2)],
+    },
+];
 
 #[test]
 fn counts_changes_of_a_var(rt: HostRuntime) -> Result<(), Fail> {
-    let rows = [
-        Row {
-            number: 1,
-            changes: &[],
-            signals: &[],
-            words: &[Word::Int(0), Word::Int(1), Word::Int(0), Word::Int(0)],
-        },
-        Row {
-            number: 2,
-            changes: &[(1, Word::Int(2)), (3, Word::Int(1))],
-            signals: &[],
-            words: &[Word::Int(0), Word::Int(2), Word::Int(0), Word::Int(1)],
-        },
-        Row {
-            number: 3,
-            changes: &[(1, Word::Int(3)), (3, Word::Int(2))],
-            signals: &[],
-            words: &[Word::Int(0), Word::Int(3), Word::Int(0), Word::Int(2)],
-        },
-    ];
-    let other = unexpected(rt.alloc(), 3, 1, &rows)?;
+    let other = unexpected(rt.alloc(), 3, 1, &VAR_TURNS)?;
     assert_eq!(rt; other, None);
     Ok(())
 }
+
+/// The turns that fire 2, 0 and 5 to be divided by.
+const DIVISION_TURNS: [Row<'static>; 3] = [
+    Row {
+        number: 2,
+        changes: &[(2, Word::Int(5)), (3, Word::Int(5))],
+        signals: &[],
+        words: &[Word::Int(0), Word::Int(0), Word::Int(5), Word::Int(5)],
+    },
+    Row {
+        number: 0,
+        changes: &[(2, Word::Fault(2)), (3, Word::Int(100))],
+        signals: &[],
+        words: &[Word::Int(0), Word::Int(0), Word::Fault(2), Word::Int(100)],
+    },
+    Row {
+        number: 5,
+        changes: &[(3, Word::Int(102))],
+        signals: &[],
+        words: &[Word::Int(0), Word::Int(0), Word::Fault(2), Word::Int(102)],
+    },
+];
 
 #[test]
 fn keeps_a_fault_or_recovers(rt: HostRuntime) -> Result<(), Fail> {
-    let rows = [
-        Row {
-            number: 2,
-            changes: &[(2, Word::Int(5)), (3, Word::Int(5))],
-            signals: &[],
-            words: &[Word::Int(0), Word::Int(0), Word::Int(5), Word::Int(5)],
-        },
-        Row {
-            number: 0,
-            changes: &[(2, Word::Fault(2)), (3, Word::Int(100))],
-            signals: &[],
-            words: &[Word::Int(0), Word::Int(0), Word::Fault(2), Word::Int(100)],
-        },
-        Row {
-            number: 5,
-            changes: &[(3, Word::Int(102))],
-            signals: &[],
-            words: &[Word::Int(0), Word::Int(0), Word::Fault(2), Word::Int(102)],
-        },
-    ];
-    let other = unexpected(rt.alloc(), 2, 1, &rows)?;
+    let other = unexpected(rt.alloc(), 2, 1, &DIVISION_TURNS)?;
     assert_eq!(rt; other, None);
     Ok(())
 }
+
+/// The turns that fire 2, 10, 0 and 2 again where other folds go on with what the division gives.
+const FAULT_TURNS: [Row<'static>; 4] = [
+    Row {
+        number: 2,
+        changes: &[(2, Word::Int(5)), (4, Word::Int(2)), (7, Word::Int(5))],
+        signals: &[],
+        words: &[
+            Word::Int(0),
+            Word::Int(0),
+            Word::Int(5),
+            Word::Int(0),
+            Word::Int(2),
+            Word::Int(0),
+            Word::Int(0),
+            Word::Int(5),
+        ],
+    },
+    Row {
+        number: 10,
+        changes: &[(2, Word::Int(6)), (7, Word::Int(11))],
+        signals: &[],
+        words: &[
+            Word::Int(0),
+            Word::Int(0),
+            Word::Int(6),
+            Word::Int(0),
+            Word::Int(2),
+            Word::Int(0),
+            Word::Int(0),
+            Word::Int(11),
+        ],
+    },
+    Row {
+        number: 0,
+        changes: &[
+            (2, Word::Fault(2)),
+            (4, Word::Int(100)),
+            (7, Word::Fault(2)),
+        ],
+        signals: &[],
+        words: &[
+            Word::Int(0),
+            Word::Int(0),
+            Word::Fault(2),
+            Word::Int(0),
+            Word::Int(100),
+            Word::Int(0),
+            Word::Int(0),
+            Word::Fault(2),
+        ],
+    },
+    Row {
+        number: 2,
+        changes: &[(4, Word::Int(2))],
+        signals: &[],
+        words: &[
+            Word::Int(0),
+            Word::Int(0),
+            Word::Fault(2),
+            Word::Int(0),
+            Word::Int(2),
+            Word::Int(0),
+            Word::Int(0),
+            Word::Fault(2),
+        ],
+    },
+];
 
 #[test]
 fn goes_on_after_faults(rt: HostRuntime) -> Result<(), Fail> {
-    let rows = [
-        Row {
-            number: 2,
-            changes: &[(2, Word::Int(5)), (4, Word::Int(2)), (7, Word::Int(5))],
-            signals: &[],
-            words: &[
-                Word::Int(0),
-                Word::Int(0),
-                Word::Int(5),
-                Word::Int(0),
-                Word::Int(2),
-                Word::Int(0),
-                Word::Int(0),
-                Word::Int(5),
-            ],
-        },
-        Row {
-            number: 10,
-            changes: &[(2, Word::Int(6)), (7, Word::Int(11))],
-            signals: &[],
-            words: &[
-                Word::Int(0),
-                Word::Int(0),
-                Word::Int(6),
-                Word::Int(0),
-                Word::Int(2),
-                Word::Int(0),
-                Word::Int(0),
-                Word::Int(11),
-            ],
-        },
-        Row {
-            number: 0,
-            changes: &[
-                (2, Word::Fault(2)),
-                (4, Word::Int(100)),
-                (7, Word::Fault(2)),
-            ],
-            signals: &[],
-            words: &[
-                Word::Int(0),
-                Word::Int(0),
-                Word::Fault(2),
-                Word::Int(0),
-                Word::Int(100),
-                Word::Int(0),
-                Word::Int(0),
-                Word::Fault(2),
-            ],
-        },
-        Row {
-            number: 2,
-            changes: &[(4, Word::Int(2))],
-            signals: &[],
-            words: &[
-                Word::Int(0),
-                Word::Int(0),
-                Word::Fault(2),
-                Word::Int(0),
-                Word::Int(2),
-                Word::Int(0),
-                Word::Int(0),
-                Word::Fault(2),
-            ],
-        },
-    ];
-    let other = unexpected(rt.alloc(), 1, 1, &rows)?;
+    let other = unexpected(rt.alloc(), 1, 1, &FAULT_TURNS)?;
     assert_eq!(rt; other, None);
     Ok(())
 }
 
+/// The turns that fire 3, 0, 5, 2, 7 and 10 where faults come and are cleared.
+const CLEARING_TURNS: [Row<'static>; 6] = [
+    Row {
+        number: 3,
+        changes: &[(3, Word::Int(3)), (4, Word::Int(3))],
+        signals: &[(5, Word::Int(6))],
+        words: &[
+            Word::Int(0),
+            Word::Int(0),
+            Word::Int(0),
+            Word::Int(3),
+            Word::Int(3),
+            Word::Int(6),
+        ],
+    },
+    // The filter carries the fault of its condition.
+    Row {
+        number: 0,
+        changes: &[(3, Word::Fault(2)), (4, Word::Fault(2))],
+        signals: &[(5, Word::Fault(2))],
+        words: &[
+            Word::Int(0),
+            Word::Int(0),
+            Word::Int(0),
+            Word::Fault(2),
+            Word::Fault(2),
+            Word::Fault(2),
+        ],
+    },
+    // It doesn't occur, so the fold on it keeps the fault.
+    Row {
+        number: 5,
+        changes: &[],
+        signals: &[],
+        words: &[
+            Word::Int(0),
+            Word::Int(0),
+            Word::Int(0),
+            Word::Fault(2),
+            Word::Fault(2),
+            Word::Fault(2),
+        ],
+    },
+    // It occurs with a value again.
+    Row {
+        number: 2,
+        changes: &[(3, Word::Int(2))],
+        signals: &[],
+        words: &[
+            Word::Int(0),
+            Word::Int(0),
+            Word::Int(0),
+            Word::Int(2),
+            Word::Fault(2),
+            Word::Fault(2),
+        ],
+    },
+    // The other fold recovers.
+    Row {
+        number: 7,
+        changes: &[(4, Word::Int(50))],
+        signals: &[(5, Word::Int(52))],
+        words: &[
+            Word::Int(0),
+            Word::Int(0),
+            Word::Int(0),
+            Word::Int(2),
+            Word::Int(50),
+            Word::Int(52),
+        ],
+    },
+    Row {
+        number: 10,
+        changes: &[(4, Word::Int(51))],
+        signals: &[(5, Word::Int(53))],
+        words: &[
+            Word::Int(0),
+            Word::Int(0),
+            Word::Int(0),
+            Word::Int(2),
+            Word::Int(51),
+            Word::Int(53),
+        ],
+    },
+];
+
 #[test]
 fn clears_faults(rt: HostRuntime) -> Result<(), Fail> {
-    let rows = [
-        Row {
-            number: 3,
-            changes: &[(3, Word::Int(3)), (4, Word::Int(3))],
-            signals: &[(5, Word::Int(6))],
-            words: &[
-                Word::Int(0),
-                Word::Int(0),
-                Word::Int(0),
-                Word::Int(3),
-                Word::Int(3),
-                Word::Int(6),
-            ],
-        },
-        // The filter carries the fault of its condition.
-        Row {
-            number: 0,
-            changes: &[(3, Word::Fault(2)), (4, Word::Fault(2))],
-            signals: &[(5, Word::Fault(2))],
-            words: &[
-                Word::Int(0),
-                Word::Int(0),
-                Word::Int(0),
-                Word::Fault(2),
-                Word::Fault(2),
-                Word::Fault(2),
-            ],
-        },
-        // It doesn't occur, so the fold on it keeps the fault.
-        Row {
-            number: 5,
-            changes: &[],
-            signals: &[],
-            words: &[
-                Word::Int(0),
-                Word::Int(0),
-                Word::Int(0),
-                Word::Fault(2),
-                Word::Fault(2),
-                Word::Fault(2),
-            ],
-        },
-        // It occurs with a value again.
-        Row {
-            number: 2,
-            changes: &[(3, Word::Int(2))],
-            signals: &[],
-            words: &[
-                Word::Int(0),
-                Word::Int(0),
-                Word::Int(0),
-                Word::Int(2),
-                Word::Fault(2),
-                Word::Fault(2),
-            ],
-        },
-        // The other fold recovers.
-        Row {
-            number: 7,
-            changes: &[(4, Word::Int(50))],
-            signals: &[(5, Word::Int(52))],
-            words: &[
-                Word::Int(0),
-                Word::Int(0),
-                Word::Int(0),
-                Word::Int(2),
-                Word::Int(50),
-                Word::Int(52),
-            ],
-        },
-        Row {
-            number: 10,
-            changes: &[(4, Word::Int(51))],
-            signals: &[(5, Word::Int(53))],
-            words: &[
-                Word::Int(0),
-                Word::Int(0),
-                Word::Int(0),
-                Word::Int(2),
-                Word::Int(51),
-                Word::Int(53),
-            ],
-        },
-    ];
-    let other = unexpected(rt.alloc(), 4, 1, &rows)?;
+    let other = unexpected(rt.alloc(), 4, 1, &CLEARING_TURNS)?;
     assert_eq!(rt; other, None);
     Ok(())
 }

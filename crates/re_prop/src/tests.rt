@@ -313,50 +313,72 @@ fn outcome<L: Ledger>(
     Ok(word.map(|word| (prepared, word)))
 }
 
+/// What the diamond's turns read: all that has a word, as it is at the start.
+const DIAMOND_READ: [(u16, Word); 6] = [
+    (1, Word::Int(1)),
+    (2, Word::Int(2)),
+    (3, Word::Int(2)),
+    (4, Word::Int(4)),
+    (6, Word::Int(0)),
+    (8, Word::Int(0)),
+];
+
+/// What the turns of the second program read: its folds, as they are at the start.
+const FOLDS_READ: [(u16, Word); 3] = [(2, Word::Int(0)), (4, Word::Int(0)), (7, Word::Int(0))];
+
+const CASES: [Case<'static>; 5] = [
+    (
+        0,
+        1,
+        5,
+        &[(1, Word::Int(5)), (6, Word::Int(1)), (8, Word::Int(17))],
+        &[(2, Word::Int(6)), (3, Word::Int(10)), (4, Word::Int(16))],
+        &DIAMOND_READ,
+    ),
+    (0, 1, 1, &[], &[], &DIAMOND_READ),
+    (
+        1,
+        1,
+        2,
+        &[(2, Word::Int(5)), (4, Word::Int(2)), (7, Word::Int(5))],
+        &[],
+        &FOLDS_READ,
+    ),
+    (
+        1,
+        1,
+        0,
+        &[
+            (2, Word::Fault(2)),
+            (4, Word::Int(100)),
+            (7, Word::Fault(2)),
+        ],
+        &[],
+        &FOLDS_READ,
+    ),
+    (
+        1,
+        1,
+        10,
+        &[(2, Word::Int(1)), (7, Word::Int(1))],
+        &[],
+        &FOLDS_READ,
+    ),
+];
+
+/// The word of the declaration 4 that is in the cache after each of these turns.
+const CACHED: [Word; 5] = [
+    Word::Int(16),
+    Word::Int(4),
+    Word::Int(0),
+    Word::Int(0),
+    Word::Int(0),
+];
+
 #[test]
 fn turns_at_the_start(rt: HostRuntime) -> Result<(), Fail> {
     let alloc = rt.alloc();
-    let (one, two) = (Word::Int(1), Word::Int(2));
-    let (none, fault) = (Word::Int(0), Word::Fault(2));
-    let read: &[(u16, Word)] = &[
-        (1, one),
-        (2, two),
-        (3, two),
-        (4, Word::Int(4)),
-        (6, none),
-        (8, none),
-    ];
-    let folds: &[(u16, Word)] = &[(2, none), (4, none), (7, none)];
-    let cases: [Case; 5] = [
-        (
-            0,
-            1,
-            5,
-            &[(1, Word::Int(5)), (6, one), (8, Word::Int(17))],
-            &[(2, Word::Int(6)), (3, Word::Int(10)), (4, Word::Int(16))],
-            read,
-        ),
-        (0, 1, 1, &[], &[], read),
-        (
-            1,
-            1,
-            2,
-            &[(2, Word::Int(5)), (4, two), (7, Word::Int(5))],
-            &[],
-            folds,
-        ),
-        (
-            1,
-            1,
-            0,
-            &[(2, fault), (4, Word::Int(100)), (7, fault)],
-            &[],
-            folds,
-        ),
-        (1, 1, 10, &[(2, one), (7, one)], &[], folds),
-    ];
-    let cached = [Word::Int(16), Word::Int(4), none, none, none];
-    for ((which, id, number, changes, signals, read), kept) in cases.into_iter().zip(cached) {
+    for ((which, id, number, changes, signals, read), kept) in CASES.into_iter().zip(CACHED) {
         let found = outcome::<Brand>(Blank::new(1), alloc, which, id, number)?;
         let (prepared, word) = found.ok_or("no turn")?;
         assert!(rt; are(&prepared.changes, changes), "changes of {number}");
