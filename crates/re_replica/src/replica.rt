@@ -4,12 +4,13 @@ ghost use Rattle.std.specs.List.{sum_by};
 ghost use Rattle.re_terms.specs.Limits.{operation_fault, OperationFault.CounterFull, OperationFault.DotsSpent, OperationFault.SetFull};
 ghost use Rattle.re_terms.specs.ShapedUpdates.{is_operation_in};
 ghost use Rattle.re_terms.specs.Shapes.{FitsShape, IsShape, pair_count};
-ghost use Rattle.re_terms.specs.Updates.{Update, IsCausalLog, IsCausallyClosed, covered, next_update};
+ghost use Rattle.re_terms.specs.Updates.{Update, IsCausalLog, IsCausallyClosed, IsIn, covered, next_update};
 ghost use Rattle.re_terms.specs.UpdateStates.{after_operation, join_states, state_of_updates};
-ghost use Rattle.re_terms.specs.Vectors.{join_vectors};
+ghost use Rattle.re_terms.specs.Values.{view_of_updates};
+ghost use Rattle.re_terms.specs.Vectors.{join_vectors, with_dot};
 ghost use Rattle.re_terms.specs.Views.{view_of};
 ghost use Rattle.re_replica.specs.Changed.{has_bit};
-ghost use Rattle.re_replica.specs.Replica.{is_insert};
+ghost use Rattle.re_replica.specs.Replica.{Represents, is_insert};
 
 use crate::acting::{act_at, next_dot};
 use crate::fault::{Changed, ReplicaFault};
@@ -59,7 +60,9 @@ impl Replica {
         }
     }
 
-    /// Does one operation of the device, which draws the device's next dot whatever the operation does.
+    /// Does one operation of the device, which draws the device's next dot whatever the operation does. A state that
+    /// stands for updates of a log, all its own among them, then stands for these and the new one, and the log with the new
+    /// one behind it is an update log again.
     ///
     /// The condition is that the shape has the cell, and that its kind allows the act. `DotsSpent` comes exactly where
     /// the dot's number would reach 2^48 or a register's stamp 2^52; else `SetFull` exactly where all sets together would
@@ -69,6 +72,7 @@ impl Replica {
         requires { is_operation_in self.old.shape op.now ≡ true }
         ensures ok { OnOk result (self.new ≡ record self.old { state = after_operation self.old.shape self.old.device op.now self.old.state }) }
         ensures updates { OnOk result ((log : List Update) (v : List ℕ) → IsCausalLog log → IsCausallyClosed log v → self.old.state ≡ state_of_updates self.old.shape (covered log v) → self.new.state ≡ state_of_updates self.old.shape (covered log v ++ next_update log v self.old.device op.now ∷ [])) }
+        ensures causal { OnOk result ((log : List Update) (v : List ℕ) → Represents log v self.old → Represents (log ++ next_update log v self.old.device op.now ∷ []) (with_dot v (next_update log v self.old.device op.now).dot) self.new) }
         ensures room { OnOk result (operation_fault self.old.shape self.old.device op.now self.old.state ≡ None) }
         ensures dots_spent { (result ≡ Err ReplicaFault.DotsSpent) ↔ (operation_fault self.old.shape self.old.device op.now self.old.state ≡ Some DotsSpent) }
         ensures set_full { (result ≡ Err ReplicaFault.SetFull) ↔ (operation_fault self.old.shape self.old.device op.now self.old.state ≡ Some SetFull) }
@@ -83,7 +87,8 @@ impl Replica {
         Ok(())
     }
 
-    /// Merges another state into this one, and says which cells changed.
+    /// Merges another state into this one, and says which cells changed. Where both stand for updates of one log, it then
+    /// stands for the updates of either.
     ///
     /// The condition is that the other state fits the shape. `SetFull` comes only where all sets of the merge together have
     /// more than 1,024 pairs, and `Ok` only where they haven't. It never answers `CounterFull` or `DotsSpent`. A refusal
@@ -92,6 +97,7 @@ impl Replica {
         requires { FitsShape self.old.shape other.now }
         ensures joined { OnOk result (self.new ≡ record self.old { state = join_states self.old.state other.now }) }
         ensures updates { OnOk result ((log : List Update) (v w : List ℕ) → IsCausalLog log → IsCausallyClosed log v → IsCausallyClosed log w → self.old.state ≡ state_of_updates self.old.shape (covered log v) → other.now ≡ state_of_updates self.old.shape (covered log w) → self.new.state ≡ state_of_updates self.old.shape (covered log (join_vectors v w))) }
+        ensures causal { OnOk result ((log : List Update) (v w : List ℕ) → Represents log v self.old → IsCausallyClosed log w → length w ≡ 16 → other.now ≡ state_of_updates self.old.shape (covered log w) → Represents log (join_vectors v w) self.new) }
         ensures changed { IfOk result (λ changed. (place : ℕ) → place < length self.old.state.cells.items → (has_bit changed.cells place ≡ false) ↔ (slice_get self.new.state.cells.items place ≡ slice_get self.old.state.cells.items place)) }
         ensures only { IfOk result (λ changed. changed.cells < 2 ^ length self.old.state.cells.items) }
         ensures room { OnOk result (sum_by pair_count (join_states self.old.state other.now).cells.items ≤ 1024) }
@@ -125,10 +131,11 @@ impl Replica {
         self.state
     }
 
-    /// The word of the counter or register at this place among the replicated cells, and 0 at any other place. It takes no
-    /// memory.
+    /// The word of the counter or register at this place among the replicated cells, and 0 at any other place. Of a state of
+    /// updates it is the value that they give. It takes no memory.
     pub fn word(&self, cell: u8) -> Word
-        ensures { result ≡ (view_of self.now.state).word cell }
+        ensures view { result ≡ (view_of self.now.state).word cell }
+        ensures value { (us : List Update) → ((u : Update) → IsIn u us → u.dot.device < 16) → self.now.state ≡ state_of_updates self.now.shape us → result ≡ (view_of_updates self.now.shape us).word cell }
     {
         match self.state.cells.get(usize::from(cell)) {
             Some(RCell::Counter(rows)) => total(rows),
@@ -137,9 +144,11 @@ impl Replica {
         }
     }
 
-    /// How many elements the set at this place has, and 0 at a place without one. It takes no memory.
+    /// How many elements the set at this place has, and 0 at a place without one. Of a state of updates these are the
+    /// elements that they give. It takes no memory.
     pub fn size(&self, cell: u8) -> u32
-        ensures { result ≡ (view_of self.now.state).size cell }
+        ensures view { result ≡ (view_of self.now.state).size cell }
+        ensures value { (us : List Update) → ((u : Update) → IsIn u us → u.dot.device < 16) → self.now.state ≡ state_of_updates self.now.shape us → result ≡ (view_of_updates self.now.shape us).size cell }
     {
         match self.state.cells.get(usize::from(cell)) {
             Some(RCell::Set(pairs)) => size(pairs),
@@ -147,9 +156,11 @@ impl Replica {
         }
     }
 
-    /// Whether the set at this place has the element, and false at a place without a set. It takes no memory.
+    /// Whether the set at this place has the element, and false at a place without a set. Of a state of updates it has those
+    /// that they give. It takes no memory.
     pub fn has(&self, cell: u8, word: Word) -> bool
-        ensures { result ≡ (view_of self.now.state).has cell word }
+        ensures view { result ≡ (view_of self.now.state).has cell word }
+        ensures value { (us : List Update) → ((u : Update) → IsIn u us → u.dot.device < 16) → self.now.state ≡ state_of_updates self.now.shape us → result ≡ (view_of_updates self.now.shape us).has cell word }
     {
         match self.state.cells.get(usize::from(cell)) {
             Some(RCell::Set(pairs)) => has(pairs, word),

@@ -8,6 +8,7 @@ use Rattle.re_terms.specs.UpdateStates.{after_operation}
 use Rattle.re_replica.specs.Replica.{ReplicaState}
 use Rattle.re_replica.proofs.Applied.{Answers, answers_of, state_of}
 use Rattle.re_terms.proofs.FittingStates.{operation_fits}
+use Rattle.re_replica.proofs.Represented.{represents_after}
 use Rattle.re_replica.proofs.Shaped.{ordered_at}
 use Rattle.re_replica.proofs.replica.Replica.apply.Goals as goal
 
@@ -85,3 +86,16 @@ returns-clause-set_full c =
     let all = subst (λ (v : ReplicaState). Answers c.act_at.result (operation_fault v.shape v.device op v.state)) c.self.view_is own in
     let none = all.none c.in_ok-act_at.was in
     (λ e. absurd (cc), λ o. absurd (cc))
+
+pub returns-clause-causal : goal.returns-clause-causal
+returns-clause-causal c = λ log v before.
+    let d = c.self.inside in
+    let op = c.args.op.now in
+    let self = c.args.self.now in
+    let is = state_of d.shape d.device op d.state c.self.invariant.fits c.from.result c.from-place.result c.in_ok-dot.dot c.act_at.new.cells c.from.ensures c.from-place.ensures c.in_ok-dot.ensures.ok c.in_ok-act_at.ensures.ok in
+    let few = c.self.invariant.limits.devices in
+    let below = c.self.invariant.numbered in
+    let small : self.device < 16 = subst (λ (w : ReplicaState). w.device < 16) c.self.view_is (omega arith) in
+    represents_after log v self op small before _
+    (ap (λ s. record { shape = d.shape; device = d.device; state = s }) is
+    ∙ ap (λ (w : ReplicaState). record { shape = w.shape; device = w.device; state = after_operation w.shape w.device op w.state }) c.self.view_is)
