@@ -38,6 +38,6 @@ loop-decl-preserved c =
     record {
       words = pushed (cell_place decls) i c.loop-decl.word_count c.loop-decl.words c.push.new.self c.loop-decl.invariant.words c.loop-decl.invariant.word_count c.in_ok-push.ensures.ok;
       replicated = pushed (replicated_place decls) i c.loop-decl.replicated_count c.loop-decl.replicated c.push-in-loop-decl.new.self c.loop-decl.invariant.replicated c.loop-decl.invariant.replicated_count c.in_ok-push-2.ensures.ok;
-      word_count = counted is_cell decls c.as_slice-decl-items.result.now i c.loop-decl.word_count c.from-word_count.result c.decl-item.result c.as_slice-decl-items.ensures c.loop-decl-test.true c.decl-item.is c.loop-decl.invariant.word_count (c.from-word_count.ensures ∙ ap bool_byte c.has_word.ensures);
+      word_count = counted is_cell decls c.as_slice-decl-items.result.now i c.loop-decl.word_count c.from-word_count.result c.decl-item.result c.as_slice-decl-items.ensures c.loop-decl-test.true c.decl-item.is c.loop-decl.invariant.word_count (c.from-word_count.ensures ∙ ap bool_byte c.is_cell.ensures);
       replicated_count = counted is_replicated decls c.as_slice-decl-items.result.now i c.loop-decl.replicated_count c.from-replicated_count.result c.decl-item.result c.as_slice-decl-items.ensures c.loop-decl-test.true c.decl-item.is c.loop-decl.invariant.replicated_count (c.from-replicated_count.ensures ∙ ap bool_byte c.is_replicated.ensures);
     }
