@@ -11,7 +11,7 @@ use Rattle.re_terms.specs.declared.program.Decl.{Decl}
 use Rattle.re_terms.specs.declared.program.Program.{Program}
 use Rattle.re_terms.specs.Kinds.{keeps_kinds}
 use Rattle.re_terms.specs.Programs.{IsProgram, is_ranged, is_symbol}
-use Rattle.re_device.specs.Sample.{program_of, lettered, counting, summing, dividing}
+use Rattle.re_device.specs.Sample.{program_of, lettered, counting, summing, dividing, replicating}
 
 -- what a test finds of each declaration holds of each
 by_test : (decls : List Decl) (test : ℕ → Decl → Bool) → list_all (λ id. option_map_or (test id) (slice_get decls id) true) (range_with_len 0 (length decls)) ≡ true → (id : ℕ) (d : Decl) → slice_get decls id ≡ Some d → test id d ≡ true
@@ -75,6 +75,22 @@ dividing-program =
       devices = omega arith;
       names = refl;
       distinct = letters 97 4;
+      kinds = by_test decls (λ id d. keeps_kinds (take id decls) d.body) (simp fold-roll-Expr);
+      ranges = by_test decls (λ id d. is_ranged (count_by is_symbol (take id decls)) d.body) (simp fold-roll-Expr);
+    }
+
+pub replicating-program : IsProgram (program_of replicating)
+replicating-program =
+    let decls : List Decl = lettered 97 replicating in
+    record {
+      plain = refl;
+      few = omega arith;
+      cells = omega arith;
+      replicated = omega arith;
+      device = omega arith;
+      devices = omega arith;
+      names = refl;
+      distinct = letters 97 7;
       kinds = by_test decls (λ id d. keeps_kinds (take id decls) d.body) (simp fold-roll-Expr);
       ranges = by_test decls (λ id d. is_ranged (count_by is_symbol (take id decls)) d.body) (simp fold-roll-Expr);
     }

@@ -1,5 +1,6 @@
 -- Small programs for tests, whose declarations are named by the letters a, b, c and so on.
 -- Read against: `counting` is `device a; var b: int = 1; event c = changed(b); fold d: int = 0 on c do self + 1;`: a turn that sets b to 5 gives d the word 1.
+-- `replicating` is `device a; var b: int = 1; counter c; set d: int; register e: int = 5; signal f = b + c; signal g = size(d);`: add c 7 gives f the word 8.
 use Rattle.std.specs.Prelude.{ℕ, ◌+◌, pos, List, [], ◌∷◌}
 use Rattle.re_terms.specs.Listed.{plain}
 use Rattle.re_terms.specs.declared.word.Word.TheVariants as word
@@ -7,7 +8,7 @@ use Rattle.re_terms.specs.declared.word.Kind.TheVariants as kind
 use Rattle.re_terms.specs.declared.expr.Op.{Op}
 use Rattle.re_terms.specs.declared.expr.Op.TheVariants as op
 use Rattle.re_terms.specs.declared.expr.Expr.{Expr, roll-Expr}
-use Rattle.re_terms.specs.declared.expr.Expr.TheOpen.{Lit, Name, Arg, Own, Bin, Recover}
+use Rattle.re_terms.specs.declared.expr.Expr.TheOpen.{Lit, Name, Arg, Own, Bin, Recover, Size}
 use Rattle.re_terms.specs.declared.program.Body.{Body}
 use Rattle.re_terms.specs.declared.program.Body.TheVariants as body
 use Rattle.re_terms.specs.declared.program.Decl.{Decl}
@@ -57,3 +58,7 @@ quotient = binary op.Add (roll-Expr Own) (binary op.Div (number 10) (roll-Expr A
 -- two folds divide by an event's value, and one of them recovers
 abbrev pub dividing : List Body
 dividing = body.Device ∷ body.Event kind.Int ∷ fold_on 1 quotient ∷ fold_on 1 (roll-Expr (Recover quotient (number 100))) ∷ []
+
+-- a var, a counter, a set and a register, and signals of the sum of var and counter and of the size of the set
+abbrev pub replicating : List Body
+replicating = body.Device ∷ var ∷ body.Counter ∷ body.Set kind.Int ∷ body.Register kind.Int (word.Int (pos 5)) ∷ signal (binary op.Add (roll-Expr (Name 1)) (roll-Expr (Name 2))) ∷ signal (roll-Expr (Size 3)) ∷ []

@@ -4,6 +4,8 @@
 mod device;
 mod env;
 mod fault;
+#[cfg(test)]
+mod operation_tests;
 mod operations;
 mod places;
 #[cfg(test)]

@@ -2,6 +2,7 @@
 ghost use Rattle.std.specs.Prelude.{◌≡◌, ◌<◌, ◌+◌, ◌++◌, ◌∷◌, ◌-◌, [], length, pos, IfOk, IfSome, OnOk};
 ghost use Rattle.re_terms.specs.Admission.{IsAdmitted};
 ghost use Rattle.re_terms.specs.Programs.{IsProgram};
+ghost use Rattle.re_device.specs.Device.{started};
 ghost use Rattle.re_device.specs.Sample.{named, number, binary, var, signal, quotient, fold_on, program_of, counting, summing, dividing};
 
 use crate::Device;
@@ -15,7 +16,7 @@ use std::sync::ledger::{Blank, Ledger};
 use std::test::Fail;
 
 /// Declares a body after the others, by the next letter.
-fn declare(alloc: Global, decls: &mut Seq<Decl>, body: Body) -> Result<(), AllocError>
+pub fn declare(alloc: Global, decls: &mut Seq<Decl>, body: Body) -> Result<(), AllocError>
     requires { length decls.old.items < 26 }
     ensures { OnOk result (decls.new ≡ record { items = decls.old.items ++ named (97 + length decls.old.items) body ∷ []; spare = decls.old.spare - 1 }) }
 {
@@ -23,13 +24,13 @@ fn declare(alloc: Global, decls: &mut Seq<Decl>, body: Body) -> Result<(), Alloc
     decls.push(Decl { name, body })
 }
 
-fn number(n: u8) -> Expr
+pub fn number(n: u8) -> Expr
     ensures { result ≡ number n }
 {
     Expr::Lit(Word::Int(i64::from(n)))
 }
 
-fn binary(alloc: Global, op: Op, left: Expr, right: Expr) -> Result<Expr, AllocError>
+pub fn binary(alloc: Global, op: Op, left: Expr, right: Expr) -> Result<Expr, AllocError>
     ensures { IfOk result (λ e. e ≡ binary op left right) }
 {
     Ok(Expr::Bin {
@@ -52,7 +53,7 @@ fn fold(source: u16, expr: Expr) -> Body
 }
 
 /// A var that is 1 at the start.
-fn var() -> Body
+pub fn var() -> Body
     ensures { result ≡ var }
 {
     Body::Var {
@@ -62,7 +63,7 @@ fn var() -> Body
     }
 }
 
-fn signal(expr: Expr) -> Body
+pub fn signal(expr: Expr) -> Body
     ensures { result ≡ signal expr }
 {
     Body::Signal {
@@ -168,8 +169,10 @@ fn turn_of(alloc: Global, p: &Program, id: u16, number: i64) -> Result<Option<Ad
     Ok(Some(Admitted { turn }))
 }
 
-fn started(alloc: Global, p: Program) -> Result<Device, AllocError>
+/// Device 0 of a program, before any turn.
+pub fn started(alloc: Global, p: Program) -> Result<Device, AllocError>
     requires { IsProgram p }
+    ensures { IfOk result (λ device. device ≡ started p 0) }
 {
     let graph = Graph::build(alloc, &p)?;
     Device::start(alloc, p, graph, 0)
