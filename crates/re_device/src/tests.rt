@@ -24,7 +24,7 @@ pub fn declare(alloc: Global, decls: &mut Seq<Decl>, body: Body) -> Result<(), A
     decls.push(Decl { name, body })
 }
 
-pub fn number(n: u8) -> Expr
+fn number(n: u8) -> Expr
     ensures { result ≡ number n }
 {
     Expr::Lit(Word::Int(i64::from(n)))
