@@ -220,9 +220,7 @@ fn reads_lines(rt: HostRuntime) -> Result<(), Fail> {
 fn are_refused(alloc: Global, p: &Program, lines: &[&[u8]], fault: CommandFault) -> bool
     requires { IsProgram p.now }
 {
-    lines
-        .iter()
-        .all(|line| summary(&command(alloc, line, p)) == Line::Refused(fault))
+    lines.iter().all(|line| summary(&command(alloc, line, p)) == Line::Refused(fault))
 }
 
 #[test]
@@ -247,8 +245,14 @@ fn limits_lines_and_parts(rt: HostRuntime) -> Result<(), Fail> {
     let alloc = rt.alloc();
     let p = program(alloc)?;
     let blanks = vec![in alloc; b' '; 1_025]?;
-    assert_eq!(rt; summary(&command(alloc, &blanks, &p)), Line::Refused(CommandFault::Syntax));
-    assert_eq!(rt; summary(&command(alloc, &blanks[..1_024], &p)), Line::Nothing);
+    assert_eq!(rt;
+        summary(&command(alloc, &blanks, &p)),
+        Line::Refused(CommandFault::Syntax)
+    );
+    assert_eq!(rt;
+        summary(&command(alloc, &blanks[..1_024], &p)),
+        Line::Nothing
+    );
     let mut line = Vec::new(alloc);
     for byte in b"turn b add c 1" {
         line.push(*byte)?;
@@ -262,7 +266,10 @@ fn limits_lines_and_parts(rt: HostRuntime) -> Result<(), Fail> {
     for byte in b", add c 1" {
         line.push(*byte)?;
     }
-    assert_eq!(rt; summary(&command(alloc, &line, &p)), Line::Refused(CommandFault::TooMany));
+    assert_eq!(rt;
+        summary(&command(alloc, &line, &p)),
+        Line::Refused(CommandFault::TooMany)
+    );
     Ok(())
 }
 

@@ -233,7 +233,8 @@ impl Device {
 
     /// The program that it runs.
     pub fn program(&self) -> &Program
-        ensures { result.now ≡ self.now.program }
+        ensures program { result.now ≡ self.now.program }
+        ensures is_program { IsProgram result.now }
     {
         &self.program
     }

@@ -15,6 +15,7 @@ pub struct Done {
 /// Why a turn was refused.
 #[derive(Clone, Copy, Debug, PartialEq, Eq, Error)]
 pub enum DeviceFault {
+    /// Memory ran out.
     #[error("memory ran out")]
     Memory,
     /// The device took 4,096 entries since it was started, or its last entry's number is 2^48 - 1.

@@ -2,7 +2,6 @@
 ghost use Rattle.std.specs.Prelude.{◌≡◌, ◌<◌, length, true, IfOk, IfSome};
 ghost use Rattle.std.specs.List.{list_all};
 ghost use Rattle.re_terms.specs.Admission.{IsAdmitted, is_operation_of};
-ghost use Rattle.re_terms.specs.Programs.{IsProgram};
 ghost use Rattle.re_device.specs.Sample.{lettered, program_of, replicating};
 
 use crate::tests::{binary, declare, signal, started, var};

@@ -52,7 +52,7 @@ own_within : (log : List Update) (w : List ℕ) (device : ℕ) → IsCausalLog l
 own_within log w device causal closed =
     elim (cases_lt 0 (slice_index w device)) [
       | inl some ↦ let u = closed (record { device = device; number = slice_index w device }) (covers-from w (record { device = device; number = slice_index w device }) some (omega arith)) in
-        subst (λ (d : Dot). d.number ≤ count_of d.device log) u.2 ((numbered_of log causal).high u.0 u.1)
+          subst (λ (d : Dot). d.number ≤ count_of d.device log) u.2 ((numbered_of log causal).high u.0 u.1)
       | inr none ↦ omega arith
     ]
 

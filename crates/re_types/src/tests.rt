@@ -351,7 +351,8 @@ fn the_first_fault_is_named(rt: HostRuntime) -> Result<(), Fail> {
 }
 
 /// What stands before each declaration that is tried.
-const DECLARED: &[u8] = b"device A symbol R var X int 1 var B bool true event E int counter C set M int register Q sym R ";
+const DECLARED: &[u8] =
+    b"device A symbol R var X int 1 var B bool true event E int counter C set M int register Q sym R ";
 
 /// Declarations that keep the kind rules.
 const RIGHT_KINDS: [&[u8]; 29] = [
