@@ -236,22 +236,6 @@ const FULL_COUNTER: [Row; 8] = [
     },
 ];
 
-/// Turns at a set that has 0 to 1,023, by the dots a1 to a1024; their answers, and the var's word after them.
-const FULL_SET: [(Option<i64>, &[Step], Result<u64, DeviceFault>, i64); 4] = [
-    (None, &[Insert(1024)], Err(DeviceFault::SetFull), 1),
-    // the second insert is refused: the var, the remove and the first insert go too
-    (
-        Some(3),
-        &[Remove(5), Insert(1024), Insert(1025)],
-        Err(DeviceFault::SetFull),
-        1,
-    ),
-    // a1025, in the place of 5's pair
-    (None, &[Insert(5)], Ok(17), 1),
-    // a1026 and a1027: 1024 has the room of 7
-    (Some(4), &[Remove(7), Insert(1024)], Ok(18), 4),
-];
-
 /// A var, a counter, a set and a register, and signals of the sum of var and counter and of the size of the set.
 fn replicating(alloc: Global) -> Result<Program, AllocError>
     ensures { IfOk result (λ p. p ≡ program_of replicating) }
@@ -399,43 +383,6 @@ fn play(rt: &impl Abort, alloc: Global, rows: &[Row]) -> Result<(), Fail> {
     take_all::<Brand>(rt, Blank::new(1), alloc, rows)
 }
 
-/// Inserts of 64 elements, from this one on.
-fn inserts_from(first: i64) -> [Step; 64] {
-    let mut steps = [Insert(first); 64];
-    for (i, step) in steps.iter_mut().enumerate() {
-        *step = Insert(first.saturating_add(i as i64));
-    }
-    steps
-}
-
-/// Inserts 0 to 1,023 in 16 turns, and then takes the turns of `FULL_SET`.
-fn fill_set<L: Ledger>(rt: &impl Abort, blank: Blank, alloc: Global) -> Result<(), Fail>
-    requires name { blank.name ≡ L.name }
-    requires parts { blank.parts ≡ L.parts }
-    requires one { 0 < L.parts }
-{
-    let mut evaluations = Steps::<L>::new(blank);
-    let mut sampled = start_sampled(alloc)?;
-    'filling: for turn in 0..16 {
-        let steps = inserts_from(turn * 64);
-        let answer = take(alloc, &mut sampled, None, &steps, &mut evaluations)?;
-        assert_eq!(rt; answer, Ok(turn as u64 + 1));
-    }
-    'full: for (set, steps, wanted, var) in FULL_SET {
-        let answer = take(alloc, &mut sampled, set, steps, &mut evaluations)?;
-        assert_eq!(rt; answer, wanted);
-        assert!(rt; has_words(&sampled, &[Int(var), Int(0), Int(5), Int(var), Int(1024)]));
-    }
-    let pairs = sampled.device.pairs(3);
-    assert!(rt; pairs.get(5) == Some(&pair(5, 1025)));
-    assert!(rt; pairs.get(1023) == Some(&pair(1024, 1027)));
-    Ok(())
-}
-
-fn fill(rt: &impl Abort, alloc: Global) -> Result<(), Fail> {
-    fill_set::<Brand>(rt, Blank::new(1), alloc)
-}
-
 #[test]
 fn operations_do_what_they_say(rt: HostRuntime) -> Result<(), Fail> {
     play(&rt, rt.alloc(), &TURNS)
@@ -444,9 +391,4 @@ fn operations_do_what_they_say(rt: HostRuntime) -> Result<(), Fail> {
 #[test]
 fn a_full_counter_takes_no_more(rt: HostRuntime) -> Result<(), Fail> {
     play(&rt, rt.alloc(), &FULL_COUNTER)
-}
-
-#[test]
-fn a_full_set_takes_no_more(rt: HostRuntime) -> Result<(), Fail> {
-    fill(&rt, rt.alloc())
 }
