@@ -2,4 +2,4 @@
 use Rattle.re_device.proofs.operation_tests.play.Given as goal
 
 abbrev pub ghosts-take_all : goal.ghosts-take_all
-ghosts-take_all a = record { name = a.blank.name; parts = a.blank.parts }
+ghosts-take_all t a = record { name = a.blank.name; parts = a.blank.parts }
