@@ -2,10 +2,13 @@ pub mod Admission
 pub mod Arithmetic
 pub mod CellStates
 pub mod Dependencies
+pub mod DeviceWorlds
+pub mod Entries
 pub mod JointLogs
 pub mod Kinds
 pub mod Layouts
 pub mod Limits
+pub mod Lines
 pub mod Listed
 pub mod Meaning
 pub mod Programs
