@@ -1,6 +1,7 @@
 pub mod Arrays
 pub mod Ascending
 pub mod Counters
+pub mod ExchangeRows
 pub mod FirstFaults
 pub mod Fitting
 pub mod FittingStates
@@ -19,5 +20,7 @@ pub mod Ordered
 pub mod Unions
 pub mod Values
 pub mod WordOrders
+pub mod WorldPrograms
+pub mod WorldRows
 pub mod Dots
 pub mod TakenIns

@@ -38,8 +38,8 @@ pub record World : Type 0 where
   -- the update log at the start, and behind it the updates of settled entries, in the order in which they became settled
   pub log : List Update
 
--- How a command fared. What a restart finds in the files is told here too: then an outcome `Fine` of each command says all that is needed for no refusal but the
--- session's own, and the answers 33, 36, 37 and 39 each come of their own outcome.
+-- How a command fared. What a restart finds in its files stands here and not beside it: so `Fine` alone says that nothing outside hindered a command,
+-- and each of the answers 33, 36, 37 and 39 comes of an outcome of its own.
 pub data Outcome : Type 0 where
   Fine : Outcome
   -- memory ran out in it
@@ -136,15 +136,16 @@ abbrev pub entries_of : Option PlainEntry → List PlainEntry
 entries_of None = []
 entries_of (Some e) = e ∷ []
 
-abbrev pub is_some_entry : List PlainEntry → Bool
-is_some_entry [] = false
-is_some_entry (e ∷ entries) = true
+-- there are entries
+abbrev pub has_entries : List PlainEntry → Bool
+has_entries [] = false
+has_entries (e ∷ entries) = true
 
 -- it makes file calls: a turn, a merge and a settling of entries do by a commit, and a restart by an opening
 abbrev pub calls_files : World → Command → Bool
 calls_files w (command.Turn d t) = true
 calls_files w (command.Deliver k d) = true
-calls_files w (command.Settle d) = is_some_entry (w.unsettled d)
+calls_files w (command.Settle d) = has_entries (w.unsettled d)
 calls_files w (command.Restart d) = true
 calls_files w c = false
 
@@ -311,26 +312,29 @@ put_up w d =
     }
 
 -- the entries of the record that a command commits: all unsettled ones, and its own behind them
-abbrev pub record_of : World → Command → ℕ → List PlainEntry
-record_of w c d = w.unsettled d ++ entries_of (entry_of w c)
+abbrev pub record_of : World → Command → List PlainEntry
+record_of w (command.Turn d t) = w.unsettled d ++ turn_entry t ∷ []
+record_of w (command.Deliver k d) = w.unsettled d ++ entries_of (entry_of w (command.Deliver k d))
+record_of w (command.Settle d) = w.unsettled d
+record_of w c = []
 
 -- the world after a command that is done
 abbrev pub done_world : World → Command → World
-done_world w (command.Turn d t) = counted (settle w d (record_of w (command.Turn d t) d)) d
+done_world w (command.Turn d t) = counted (settle w d (record_of w (command.Turn d t))) d
 done_world w (command.Lazy d t) = apply w d (turn_entry t)
-done_world w (command.Settle d) = settle w d (record_of w (command.Settle d) d)
+done_world w (command.Settle d) = settle w d (record_of w (command.Settle d))
 done_world w (command.Get d id) = w
 done_world w (command.Send d) = record w { packets = w.packets ++ settled_taken w d ∷ [] }
-done_world w (command.Deliver k d) = counted (settle w d (record_of w (command.Deliver k d) d)) d
+done_world w (command.Deliver k d) = counted (settle w d (record_of w (command.Deliver k d))) d
 done_world w (command.Hex k) = w
 done_world w (command.Crash d) = put_down w d
 done_world w (command.Restart d) = put_up w d
 
 -- the world after a command in which this call failed: a commit stops the device, and a restart leaves it down
 abbrev pub failed_world : World → Command → ℕ → Bool → World
-failed_world w (command.Turn d t) at gate_open = doubt w d (record_of w (command.Turn d t) d) at gate_open
-failed_world w (command.Deliver k d) at gate_open = doubt w d (record_of w (command.Deliver k d) d) at gate_open
-failed_world w (command.Settle d) at gate_open = doubt w d (record_of w (command.Settle d) d) at gate_open
+failed_world w (command.Turn d t) at gate_open = doubt w d (record_of w (command.Turn d t)) at gate_open
+failed_world w (command.Deliver k d) at gate_open = doubt w d (record_of w (command.Deliver k d)) at gate_open
+failed_world w (command.Settle d) at gate_open = doubt w d (record_of w (command.Settle d)) at gate_open
 failed_world w c at gate_open = w
 
 -- the world after a command that isn't refused before, by how it fared

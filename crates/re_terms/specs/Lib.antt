@@ -11,12 +11,14 @@ pub mod Limits
 pub mod Lines
 pub mod Listed
 pub mod Meaning
+pub mod Parts
 pub mod Programs
 pub mod Propagation
 pub mod Replication
 pub mod Runs
 pub mod ShapedUpdates
 pub mod Shapes
+pub mod CausalWorlds
 pub mod Cells
 pub mod SignalWords
 pub mod Spellings

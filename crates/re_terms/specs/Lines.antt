@@ -1,13 +1,13 @@
 -- The lines of devices, and what was acknowledged of them, in a session of several devices.
 -- Read against: on `device a; counter c;` after lazy a add c 1, turn a add c 2 and within lazy a add c 3 the line of a has two entries; within a turn behind these three it has the unsettled third and the turn's own too.
 -- The turn's ok 2 acknowledges 2 and applied 3 nothing; where the turn's commit failed its line is the entries in doubt behind the settled ones.
-use Rattle.std.specs.Prelude.{ℕ, ◌==◌, Bool, true, false, not, if◌then◌else◌, List, [], ◌∷◌, ◌++◌, max, take, Option, None, Some, slice_get}
+use Rattle.std.specs.Prelude.{ℕ, ◌==◌, Bool, true, false, if◌then◌else◌, List, [], ◌∷◌, ◌++◌, max, take, Option, None, Some, slice_get}
 use Rattle.re_terms.specs.declared.program.Program.{Program}
 use Rattle.re_terms.specs.declared.command.Command.{Command}
 use Rattle.re_terms.specs.declared.command.Command.TheVariants as command
 use Rattle.re_terms.specs.DeviceWorlds.{World, Outcome, entries_of, entry_of, is_for, reply, world_after}
 use Rattle.re_terms.specs.Entries.{PlainEntry}
-use Rattle.re_terms.specs.Worlds.{PlainAnswer, Entered, Applied, Settled, Value, Members, Packet, Hex, Down, Up, Refused, StoppedAt, BadFile}
+use Rattle.re_terms.specs.Worlds.{PlainAnswer, Entered, Settled, Up, Refused, StoppedAt, BadFile}
 
 -- a command that was asked, and how it fared
 pub record Done : Type 0 where
@@ -61,9 +61,9 @@ further p w under_way d = first_filled (w.in_doubt d) (w.unsettled d ++ entry_un
 abbrev pub committed_line : Program → World → Option Done → ℕ → List PlainEntry
 committed_line p w under_way d = w.settled d ++ further p w under_way d
 
--- the same where so many of these commands are answered, and the next, if any, is under way
-abbrev pub line_at : Program → World → List Done → ℕ → ℕ → List PlainEntry
-line_at p w done answered d = committed_line p (worlds_after p w (take answered done)) (slice_get done answered) d
+-- the same where so many of these commands are answered, and the next has begun or not
+abbrev pub line_at : Program → World → List Done → ℕ → Bool → ℕ → List PlainEntry
+line_at p w done answered begun d = committed_line p (worlds_after p w (take answered done)) (if begun then slice_get done answered else None) d
 
 -- ---- acknowledged
 
