@@ -22,11 +22,11 @@ IsContinuation-parts us (x ∷ xs) ys h =
     let r = IsContinuation-parts (us ++ x ∷ []) xs ys h.1 in
     ((h.0, r.0), subst (λ l. IsContinuation l ys) (append_assoc us (x ∷ []) xs) r.1)
 
-count-append : (d : ℕ) (xs ys : List Update) → count_of d (xs ++ ys) ≡ count_of d xs + count_of d ys
+pub count-append : (d : ℕ) (xs ys : List Update) → count_of d (xs ++ ys) ≡ count_of d xs + count_of d ys
 unfolding count_of
 count-append d xs ys = sum_by-append _ xs ys
 
-count-none : (d : ℕ) (xs : List Update) → ((u : Update) → IsIn u xs → u.dot.device ≢ d) → count_of d xs ≡ 0
+pub count-none : (d : ℕ) (xs : List Update) → ((u : Update) → IsIn u xs → u.dot.device ≢ d) → count_of d xs ≡ 0
 unfolding count_of
 count-none d [] h = refl
 count-none d (x ∷ xs) h = count-append d (x ∷ []) xs ∙ let a = h x (inl refl) in let e = count-none d xs (λ u k. h u (inr k)) in grind (arith, nat_tests)

@@ -5,6 +5,7 @@ pub mod ExchangeRows
 pub mod FirstFaults
 pub mod Fitting
 pub mod FittingStates
+pub mod Growing
 pub mod Joins
 pub mod Joint
 pub mod Lists
@@ -22,5 +23,6 @@ pub mod Values
 pub mod WordOrders
 pub mod WorldPrograms
 pub mod WorldRows
+pub mod WorldSteps
 pub mod Dots
 pub mod TakenIns

@@ -149,7 +149,7 @@ module _ (log us : List Update) (device : ℕ) (taken : IsTakenIn log device us)
 
 -- ---- the limits
 
-live_is : (ks : List RKind) (place : ℕ) (us : List Update) → live_counts place ks us ≡ sum_by pair_count (contents_from place ks us)
+pub live_is : (ks : List RKind) (place : ℕ) (us : List Update) → live_counts place ks us ≡ sum_by pair_count (contents_from place ks us)
 live_is [] place us = refl
 live_is (kind.Counter ∷ ks) place us = let e = live_is ks (place + 1) us in omega (arith, sum_by-cons pair_count (content_of kind.Counter place us) (contents_from (place + 1) ks us))
 live_is (kind.Set k ∷ ks) place us = let e = live_is ks (place + 1) us in omega (arith, sum_by-cons pair_count (content_of (kind.Set k) place us) (contents_from (place + 1) ks us))
@@ -276,3 +276,9 @@ taken_fault shape log us device (op ∷ ops) taken takes =
 
 pub taken_devices : (log us : List Update) (device : ℕ) → IsTakenIn log device us → (u : Update) → IsIn u us → u.dot.device < 16
 taken_devices log us device taken u h = (numbered_of log taken.causal).device u (in_log log us device taken u h)
+
+-- what a device makes is its own
+pub own_device : (us : List Update) (device : ℕ) (ops : List RepOp) (u : Update) → IsIn u (updates_made device ops us) → u.dot.device ≡ device
+own_device us device [] u h = absurd h
+own_device us device (op ∷ ops) u (inl e) = sym (ap (λ x. x.dot.device) e)
+own_device us device (op ∷ ops) u (inr h) = own_device (us ++ update_next us device op ∷ []) device ops u h

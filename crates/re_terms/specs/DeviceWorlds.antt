@@ -265,6 +265,13 @@ abbrev pub reply : Program → World → Command → Outcome → PlainAnswer
 reply p w c Memory = Refused 36
 reply p w c o = unwrap_or (refusal p w c) (fared_answer p w c (outcome_of w c o))
 
+-- an answer that refuses a command
+abbrev pub is_refusal : PlainAnswer → Bool
+is_refusal (Refused code) = true
+is_refusal (StoppedAt call) = true
+is_refusal (BadFile file place) = true
+is_refusal a = false
+
 -- ---- changes
 
 -- the entries are settled, behind those before, and none is unsettled

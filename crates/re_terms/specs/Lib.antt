@@ -25,6 +25,7 @@ pub mod Spellings
 pub mod TakenIn
 pub mod Tokens
 pub mod Trees
+pub mod Untouched
 pub mod UpdateSets
 pub mod UpdateStates
 pub mod Updates
