@@ -21,6 +21,7 @@ pub mod Ordered
 pub mod Unions
 pub mod Values
 pub mod WordOrders
+pub mod WorldEffects
 pub mod WorldPrograms
 pub mod WorldRows
 pub mod WorldSteps
