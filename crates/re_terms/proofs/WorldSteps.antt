@@ -14,6 +14,9 @@ use Rattle.re_terms.specs.Limits.{OperationFault, SetFull, CounterFull, DotsSpen
 use Rattle.re_terms.specs.Untouched.{IsUntouched}
 use Rattle.re_terms.specs.Worlds.{PlainAnswer, Entered, Applied, Settled, Value, Members, Packet, Hex, Down, Up, Refused, StoppedAt, BadFile, is_set_at, limit_code}
 
+pub some_none : {A : Type 0} (a : A) → Some a ≡ None → ⊥
+some_none a e = cc
+
 -- ---- functions of devices
 
 pub same_device : (d : ℕ) → (d == d) ≡ true
@@ -458,3 +461,34 @@ module _ (p : Program) (w : World) (c : Command) where
 
   pub failed_after : (at : ℕ) (gate_open : Bool) → refusal p w c ≡ None → calls_files w c ≡ true → world_after p w c (Failed at gate_open) ≡ failed_world w c at gate_open
   failed_after at gate_open none files = λ i. option_map_or (λ refused. w) (none i) (fared_world w c (if files i then Failed at gate_open else Fine))
+
+  pub accepted : (o : Outcome) (a : PlainAnswer) → is_refusal a ≡ false → reply p w c o ≡ a → refusal p w c ≡ None
+  accepted o a h e = elim (fared o a (answer_early a h) e) [
+    | inl m ↦ absurd (true≢false (ap is_refusal (sym (ap (reply p w c) m) ∙ e) ∙ h))
+    | inr k ↦ k.0
+  ]
+
+  -- a command that isn't refused has its packet
+  pub has_packet : refusal p w c ≡ None → lacks_packet w c ≡ false
+  has_packet none = by_packet (lacks_packet w c) refl none
+    where
+      rest : Option PlainAnswer
+      rest =
+          option_or (refused_where (is_down w c) 26)
+          (option_or (refused_where (is_up w c) 27)
+          (option_or (option_map StoppedAt (stopped_at w c))
+          (option_or (refused_where (has_all_packets w c) 35)
+          (option_or (refused_where (has_all_entries w c) 29)
+          (option_or (refused_where (has_all_unsettled w c) 38)
+          (option_map (λ f. Refused (limit_code f)) (limit_fault p w c)))))))
+
+      by_packet : (b : Bool) → lacks_packet w c ≡ b → option_or (refused_where b 28) rest ≡ None → lacks_packet w c ≡ false
+      by_packet true e h = absurd (some_none _ h)
+      by_packet false e h = e
+
+  -- and its device is up, where it has to be
+  pub has_device : refusal p w c ≡ None → is_down w c ≡ false
+  has_device none = elim (is_down w c) as (λ b. is_down w c ≡ b → b ≡ false) [
+    | true ↦ λ e. absurd (some_none _ (sym (down_refused e) ∙ none))
+    | false ↦ λ e. refl
+  ] refl
