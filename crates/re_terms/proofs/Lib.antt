@@ -17,6 +17,7 @@ pub mod Operations
 pub mod ProgramShapes
 pub mod Registers
 pub mod Sets
+pub mod MergeLimits
 pub mod Ordered
 pub mod Unions
 pub mod Values

@@ -1,4 +1,8 @@
 -- What a step of the world does to its device: what is settled, and how its entries are numbered.
+use Rattle.std.proofs.Common.{Option}
+use Rattle.re_terms.specs.DeviceWorlds.{Failed, calls_files, doubt}
+use Rattle.re_terms.proofs.WorldSteps.{failed_after}
+use Rattle.std.specs.Option.{option_map_or}
 use Rattle.re_terms.specs.declared.word.Word.{Word}
 use Rattle.re_terms.specs.declared.command.Command.{Command}
 use Rattle.std.proofs.lemmas.Option.{slice_get_cases}
@@ -227,3 +231,24 @@ module _ (p : Program) (w : World) (d : ℕ) where
 
     pub up_is : reply p w c o ≡ Up n → (settled_number (world_after p w c o) d ≡ n) × (last_number (world_after p w c o) d ≡ n)
     up_is e = let a = answered p w c o (Up n) refl e in subst (λ v. (settled_number v d ≡ n) × (last_number v d ≡ n)) (sym a.0) (done_up c n mine a.1)
+
+-- ---- what a failed call leaves
+
+module _ (p : Program) (w : World) (d : ℕ) where
+  pub turn_fails : (t : Admitted) (at : ℕ) (gate_open : Bool) → refusal p w (command.Turn d t) ≡ None → world_after p w (command.Turn d t) (Failed at gate_open) ≡ doubt w d (w.unsettled d ++ turn_entry t ∷ []) at gate_open
+  turn_fails t at gate_open none = failed_after p w (command.Turn d t) at gate_open none refl
+
+  pub merge_fails : (k : ℕ) (packet : List Update) (at : ℕ) (gate_open : Bool) → slice_get w.packets k ≡ Some packet → refusal p w (command.Deliver k d) ≡ None → world_after p w (command.Deliver k d) (Failed at gate_open) ≡ doubt w d (w.unsettled d ++ Merge packet ∷ []) at gate_open
+  merge_fails k packet at gate_open found none =
+      failed_after p w (command.Deliver k d) at gate_open none refl
+      ∙ ap (λ x. doubt w d (w.unsettled d ++ entries_of (option_map Merge x)) at gate_open) found
+
+  pub settling_fails : (at : ℕ) (gate_open : Bool) → refusal p w (command.Settle d) ≡ None → calls_files w (command.Settle d) ≡ true → world_after p w (command.Settle d) (Failed at gate_open) ≡ doubt w d (w.unsettled d) at gate_open
+  settling_fails at gate_open none files = failed_after p w (command.Settle d) at gate_open none files
+
+  pub restart_fails : (at : ℕ) (gate_open : Bool) → world_after p w (command.Restart d) (Failed at gate_open) ≡ w
+  restart_fails at gate_open = by_refusal (refusal p w (command.Restart d))
+    where
+      by_refusal : (r : Option PlainAnswer) → option_map_or (λ refused. w) r w ≡ w
+      by_refusal None = refl
+      by_refusal (Some a) = refl

@@ -23,6 +23,7 @@ pub mod text;
 pub mod token;
 pub mod vectors;
 pub mod word;
+pub mod world_laws;
 
 pub use command::{Answer, Command};
 pub use copying::TryCopy;
