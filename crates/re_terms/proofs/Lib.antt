@@ -1,5 +1,6 @@
 pub mod Arrays
 pub mod Ascending
+pub mod CausalSteps
 pub mod Counters
 pub mod ExchangeRows
 pub mod FirstFaults
