@@ -1,3 +1,4 @@
+pub mod Acknowledging
 pub mod Arrays
 pub mod Ascending
 pub mod CausalSteps

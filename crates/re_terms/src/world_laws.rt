@@ -1,11 +1,15 @@
 //! The laws of a session's world over several devices: what a command changes, what it leaves, and how the log grows.
-ghost use Rattle.std.specs.Prelude.{true, false, Bool, ◌≡◌, ◌≢◌, ◌↔◌, ◌+◌, ◌++◌, ◌∷◌, ℕ, List, [], if◌then◌else◌, nat_lt, Option, None, Some, slice_get};
+ghost use Rattle.std.specs.Prelude.{true, false, Bool, ◌≡◌, ◌≢◌, ◌<◌, ◌≤◌, ◌↔◌, ◌+◌, ◌++◌, ◌∷◌, ℕ, List, [], if◌then◌else◌, nat_lt, Option, None, Some, slice_get, take};
 ghost use Rattle.std.specs.List.{sum_by};
-ghost use Rattle.re_terms.specs.DeviceWorlds.{World, Outcome, Fine, Memory, Failed, BadStore, OtherProgram, calls_files, device_state, doubt, is_down, is_for, is_refusal, lacks_packet, last_number, merge_fault, reads_store, recovered, refusal, reply, settled_number, settled_state, settled_taken, taken, world_after};
+ghost use Rattle.re_terms.specs.Admission.{IsCommandOf, device_count};
+ghost use Rattle.re_terms.specs.CausalWorlds.{IsCausalWorld};
+ghost use Rattle.re_terms.specs.DeviceWorlds.{start_world, World, Outcome, Fine, Memory, Failed, BadStore, OtherProgram, calls_files, device_state, doubt, is_down, is_for, is_refusal, lacks_packet, last_number, merge_fault, reads_store, recovered, refusal, reply, settled_number, settled_state, settled_taken, taken, world_after};
 ghost use Rattle.re_terms.specs.Entries.{PlainEntry, Merge, run_taken, run_updates, turn_entry};
 ghost use Rattle.re_terms.specs.JointLogs.{Further, all_of, IsOneOf, NoneOf, Follows, AllFollow};
 ghost use Rattle.re_terms.specs.Limits.{SetFull};
+ghost use Rattle.re_terms.specs.Lines.{Done, acknowledged, worlds_after};
 ghost use Rattle.re_terms.specs.Parts.{IsPart, AllFit};
+ghost use Rattle.re_terms.specs.Runs.{PlainState};
 ghost use Rattle.re_terms.specs.Shapes.{pair_count, shape_of};
 ghost use Rattle.re_terms.specs.TakenIn.{IsTakenIn};
 ghost use Rattle.re_terms.specs.Untouched.{IsUntouched, HasSettled};
@@ -101,4 +105,17 @@ pub fn joint_count_law()
 /// A merge is refused where the sets of the joined states have more than 1,024 pairs together.
 pub fn merge_limit_law()
     ensures { (p : Program) (log us packet : List Update) (d : ℕ) → IsTakenIn log d us → IsPart log packet → merge_fault p us packet ≡ (if nat_lt 1024 (sum_by pair_count (join_states (state_of_updates (shape_of p) us) (state_of_updates (shape_of p) packet)).cells.items) then Some SetFull else None) }
+{}
+
+/// A session over files that represent a causal log has a world of one causal log at the start, and each command leaves it
+/// so.
+pub fn causal_world_law()
+    ensures start { (p : Program) (base : ℕ → PlainState) (base_number : ℕ → ℕ) (log : List Update) → device_count p.decls.items ≤ 16 → IsCausalLog log → ((u : Update) → IsIn u log → u.dot.device < device_count p.decls.items) → ((d : ℕ) → d < device_count p.decls.items → IsTakenIn log d (base d).taken) → IsCausalWorld (device_count p.decls.items) (start_world p base base_number log) }
+    ensures step { (p : Program) (w : World) (c : Command) (o : Outcome) → IsCommandOf p c → IsCausalWorld (device_count p.decls.items) w → IsCausalWorld (device_count p.decls.items) (world_after p w c o) }
+{}
+
+/// A settled entry stays settled, and whatever is acknowledged of a device is among its settled entries.
+pub fn acknowledged_law()
+    ensures settled { (p : Program) (w : World) (c : Command) (o : Outcome) (d : ℕ) → (more : List PlainEntry) × ((world_after p w c o).settled d ≡ w.settled d ++ more) }
+    ensures acknowledged { (p : Program) (w : World) (done : List Done) (answered d : ℕ) → acknowledged p w done answered d ≤ settled_number (worlds_after p w (take answered done)) d }
 {}
