@@ -7,6 +7,7 @@ pub mod ExchangeRows
 pub mod FirstFaults
 pub mod Fitting
 pub mod FittingStates
+pub mod FoldRows
 pub mod Growing
 pub mod Joins
 pub mod Joint
