@@ -1,72 +1,19 @@
 -- Worked sessions of two devices that exchange packets, by the definitions of worlds and lines.
 use Rattle.std.proofs.Common.{◌≡◌, pos, List, [], ◌∷◌, refl}
 use Rattle.re_terms.specs.declared.command.Command.TheVariants as command
-use Rattle.re_terms.specs.declared.expr.Expr.TheVariants as expr
-use Rattle.re_terms.specs.declared.expr.Op.TheVariants as op
 use Rattle.re_terms.specs.declared.program.Body.TheVariants as body
 use Rattle.re_terms.specs.declared.program.Program.{Program}
-use Rattle.re_terms.specs.declared.replicated.Act.TheVariants.{Add, Insert, Remove, Write}
+use Rattle.re_terms.specs.declared.replicated.Act.TheVariants.{Add, Write}
 use Rattle.re_terms.specs.declared.word.Kind.TheVariants as kind
 use Rattle.re_terms.specs.declared.word.Word.TheVariants as word
 use Rattle.re_terms.specs.CellStates.{join_written, written, greatest_write}
 use Rattle.re_terms.specs.DeviceWorlds.{blank_world}
-use Rattle.re_terms.specs.Lines.{Done, replies, acknowledged}
+use Rattle.re_terms.specs.Lines.{Done, replies}
 use Rattle.re_terms.specs.Updates.{greatest_number, vector_of, greatest_stamp, stamp_in}
 use Rattle.re_terms.specs.Vectors.{by_device, covers}
 use Rattle.re_terms.specs.Values.{total_amount}
 use Rattle.re_terms.specs.Worlds.{Entered, Value, Packet, Down, Refused}
 use Rattle.re_terms.proofs.WorldPrograms.{declared, program, int, operated, on, fine}
-
--- ---- an insert that the remover hasn't seen stays
-
--- `device a; device b; set s: int;`
-abbrev sets : Program
-sets = program (declared body.Device ∷ declared body.Device ∷ declared (body.Set kind.Int) ∷ [])
-
-abbrev both_sent : List Done
-both_sent =
-    fine (command.Turn 0 (operated (on 0 (Insert (int (pos 4))) ∷ [])))
-    ∷ fine (command.Turn 1 (operated (on 0 (Remove (int (pos 4))) ∷ [])))
-    ∷ fine (command.Send 0)
-    ∷ fine (command.Send 1)
-    ∷ fine (command.Deliver 0 1)
-    ∷ fine (command.Deliver 1 0)
-    ∷ fine (command.Get 0 2)
-    ∷ fine (command.Get 1 2)
-    ∷ fine (command.Hex 0)
-    ∷ []
-
--- ---- packets out of order, and one of them twice: each merge is an entry, and the fold steps where the counter changed
-
--- `device a; device b; counter c; event e = changed(c); fold n: int = 0 on e do self + 1;`
-abbrev watched : Program
-watched =
-    program (
-    declared body.Device
-    ∷ declared body.Device
-    ∷ declared body.Counter
-    ∷ declared (body.Changed 2)
-    ∷ declared (body.Fold kind.Int (int (pos 0)) 3 (expr.Bin op.Add expr.Own (expr.Lit (int (pos 1)))) 1)
-    ∷ []
-    )
-
-abbrev out_of_order : List Done
-out_of_order =
-    fine (command.Turn 0 (operated (on 0 (Add (pos 2)) ∷ [])))
-    ∷ fine (command.Send 0)
-    ∷ fine (command.Turn 0 (operated (on 0 (Add (pos 3)) ∷ [])))
-    ∷ fine (command.Send 0)
-    ∷ fine (command.Deliver 1 1)
-    ∷ fine (command.Deliver 1 1)
-    ∷ fine (command.Deliver 0 1)
-    ∷ fine (command.Get 1 2)
-    ∷ fine (command.Get 1 4)
-    ∷ []
-
--- the answers of the merges tell of the device that took them
-told_is : acknowledged watched (blank_world watched) out_of_order 6 1 ≡ 2
-unfolding vector_of greatest_number by_device covers greatest_stamp stamp_in
-told_is = refl
 
 -- ---- two writes of equal stamp: the greater device's counts at both
 

@@ -1,4 +1,15 @@
 -- Worked sessions with folds, by the definitions of worlds and lines.
+use Rattle.std.proofs.Common.{refl}
+use Rattle.std.proofs.Common.{◌++◌}
+use Rattle.re_terms.specs.declared.replicated.Act.TheVariants.{Add}
+use Rattle.re_terms.specs.Entries.{Merge}
+use Rattle.re_terms.specs.Limits.{updates_made}
+use Rattle.re_terms.specs.Lines.{acknowledged}
+use Rattle.re_terms.specs.Updates.{Update, greatest_number, vector_of, greatest_stamp, stamp_in}
+use Rattle.re_terms.specs.Values.{total_amount}
+use Rattle.re_terms.specs.Vectors.{by_device, covers}
+use Rattle.re_terms.specs.Worlds.{Packet}
+use Rattle.re_terms.proofs.WorldPrograms.{operated, on}
 use Rattle.std.proofs.Common.{◌≡◌, ℕ, ℤ, pos, List, [], ◌∷◌, ap, ◌∙◌}
 use Rattle.std.specs.Prelude.{unwrap_or}
 use Rattle.re_terms.specs.declared.command.Command.TheVariants as command
@@ -83,3 +94,67 @@ restarted =
 
 restarted_is : replies changing (blank_world changing) restarted ≡ Entered 1 ∷ Entered 2 ∷ Entered 3 ∷ Down ∷ Up 3 ∷ Value (int (pos 4)) ∷ Value (int (pos 3)) ∷ Entered 4 ∷ []
 restarted_is = ap (λ s. Entered 1 ∷ Entered 2 ∷ Entered 3 ∷ Down ∷ Up 3 ∷ shown changing s 1 ∷ shown changing s 3 ∷ Entered 4 ∷ []) ran
+
+-- ---- packets out of order, and one of them twice: each merge is an entry, and the fold steps where the counter changed
+
+-- `device a; device b; counter c; event e = changed(c); fold n: int = 0 on e do self + 1;`
+abbrev watched : Program
+watched =
+    program (
+      declared body.Device
+      ∷ declared body.Device
+      ∷ declared body.Counter
+      ∷ declared (body.Changed 2)
+      ∷ declared (body.Fold kind.Int (int (pos 0)) 3 one_more 1)
+      ∷ []
+    )
+
+abbrev out_of_order : List Done
+out_of_order =
+    fine (command.Turn 0 (operated (on 0 (Add (pos 2)) ∷ [])))
+    ∷ fine (command.Send 0)
+    ∷ fine (command.Turn 0 (operated (on 0 (Add (pos 3)) ∷ [])))
+    ∷ fine (command.Send 0)
+    ∷ fine (command.Deliver 1 1)
+    ∷ fine (command.Deliver 1 1)
+    ∷ fine (command.Deliver 0 1)
+    ∷ fine (command.Get 1 2)
+    ∷ fine (command.Get 1 4)
+    ∷ []
+
+-- the two packets
+abbrev one_update : List Update
+one_update = updates_made 0 (on 0 (Add (pos 2)) ∷ []) []
+
+abbrev two_updates : List Update
+two_updates = one_update ++ updates_made 0 (on 0 (Add (pos 3)) ∷ []) one_update
+
+abbrev counted : PlainState
+counted = record { words = int (pos 1) ∷ []; taken = two_updates }
+
+first_merge : entry_after watched 1 (plain_start watched) (Merge two_updates) ≡ counted
+unfolding vector_of greatest_number by_device covers total_amount greatest_stamp stamp_in same_word
+first_merge = ap (λ n. record { words = n ∷ []; taken = two_updates }) (one_more_is _)
+
+same_merge : entry_after watched 1 counted (Merge two_updates) ≡ counted
+unfolding vector_of greatest_number by_device covers total_amount greatest_stamp stamp_in same_word
+same_merge = refl
+
+older_merge : entry_after watched 1 counted (Merge one_update) ≡ counted
+unfolding vector_of greatest_number by_device covers total_amount greatest_stamp stamp_in same_word
+older_merge = refl
+
+merged : run_entries watched 1 (plain_start watched) (Merge two_updates ∷ Merge two_updates ∷ Merge one_update ∷ []) ≡ counted
+merged =
+    ap (λ s. run_entries watched 1 s (Merge two_updates ∷ Merge one_update ∷ [])) first_merge
+    ∙ ap (λ s. run_entries watched 1 s (Merge one_update ∷ [])) same_merge
+    ∙ older_merge
+
+out_of_order_is : replies watched (blank_world watched) out_of_order ≡ Entered 1 ∷ Packet 0 ∷ Entered 2 ∷ Packet 1 ∷ Entered 1 ∷ Entered 2 ∷ Entered 3 ∷ Value (int (pos 5)) ∷ Value (int (pos 1)) ∷ []
+unfolding vector_of greatest_number by_device covers total_amount greatest_stamp stamp_in same_word
+out_of_order_is = ap (λ s. Entered 1 ∷ Packet 0 ∷ Entered 2 ∷ Packet 1 ∷ Entered 1 ∷ Entered 2 ∷ Entered 3 ∷ shown watched s 2 ∷ shown watched s 4 ∷ []) merged
+
+-- the answers of the merges tell of the device that took them
+told_is : acknowledged watched (blank_world watched) out_of_order 6 1 ≡ 2
+unfolding vector_of greatest_number by_device covers greatest_stamp stamp_in
+told_is = refl

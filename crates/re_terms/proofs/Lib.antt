@@ -19,6 +19,7 @@ pub mod OneMore
 pub mod Operations
 pub mod ProgramShapes
 pub mod Registers
+pub mod SetRows
 pub mod Sets
 pub mod MergeLimits
 pub mod Ordered

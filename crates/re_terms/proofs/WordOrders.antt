@@ -162,3 +162,6 @@ ascending_sorted = ascending_by_sorted pair_cmp
 -- how code shows that its list is the one: it ascends, and has the members
 pub ascending_from : (ps qs : List Pair) → IsStrictlySortedBy pair_cmp ps → ((p : Pair) → list_any (eq_by_cmp pair_cmp p) ps ≡ list_any (eq_by_cmp pair_cmp p) qs) → ps ≡ ascending qs
 ascending_from ps qs s h = sym (ascending_is ps s) ∙ ascending_same ps qs h
+
+pub ascending_words_is : (ws : List Word) → IsStrictlySortedBy word_cmp ws → ascending_words ws ≡ ws
+ascending_words_is = ascending_by_is word_cmp word_cmp_total word_cmp_same
