@@ -1,8 +1,8 @@
 -- A step leads from a world of one causal log to another.
 use Rattle.std.proofs.Common.{◌≡◌, ◌≢◌, ℕ, zero, suc, ◌<◌, ◌≤◌, Bool, true, false, List, [], ◌∷◌, ◌++◌, Option, Some, None, refl, sym, ap, ◌∙◌, subst, arith, inl, inr}
-use Rattle.std.specs.Prelude.{◌==◌, not, if◌then◌else◌, nat_lt, option_map, slice_get}
-use Rattle.std.specs.Option.{option_map_or}
 use Rattle.std.proofs.lemmas.Bool.Decides.{nat_tests}
+use Rattle.std.specs.Option.{option_map_or}
+use Rattle.std.specs.Prelude.{◌==◌, not, if◌then◌else◌, nat_lt, option_map, slice_get}
 use mathlib.Core.Bool.{true≢false}
 use Rattle.re_terms.specs.declared.command.Command.{Command}
 use Rattle.re_terms.specs.declared.command.Command.TheVariants as command
@@ -34,8 +34,8 @@ apart : (x d : ℕ) → (x == d) ≡ false → x ≢ d
 apart x d e same = absurd (grind (arith, nat_tests))
 
 pub started : (p : Program) (base : ℕ → PlainState) (base_number : ℕ → ℕ) (log : List Update) → device_count p.decls.items ≤ 16 → IsCausalLog log
-  → ((u : Update) → IsIn u log → u.dot.device < device_count p.decls.items) → ((d : ℕ) → d < device_count p.decls.items → IsTakenIn log d (base d).taken)
-  → IsCausalWorld (device_count p.decls.items) (start_world p base base_number log)
+    → ((u : Update) → IsIn u log → u.dot.device < device_count p.decls.items) → ((d : ℕ) → d < device_count p.decls.items → IsTakenIn log d (base d).taken)
+    → IsCausalWorld (device_count p.decls.items) (start_world p base base_number log)
 started p base base_number log few causal of_devices taken_in = record {
   few = few;
   causal = causal;

@@ -10,8 +10,8 @@ use Rattle.re_terms.specs.CellStates.{join_written, written, greatest_write}
 use Rattle.re_terms.specs.DeviceWorlds.{blank_world}
 use Rattle.re_terms.specs.Lines.{Done, replies}
 use Rattle.re_terms.specs.Updates.{greatest_number, vector_of, greatest_stamp, stamp_in}
-use Rattle.re_terms.specs.Vectors.{by_device, covers}
 use Rattle.re_terms.specs.Values.{total_amount}
+use Rattle.re_terms.specs.Vectors.{by_device, covers}
 use Rattle.re_terms.specs.Worlds.{Entered, Value, Packet, Down, Refused}
 use Rattle.re_terms.proofs.WorldPrograms.{declared, program, int, operated, on, fine}
 

@@ -1,16 +1,5 @@
 -- Worked sessions with folds, by the definitions of worlds and lines.
-use Rattle.std.proofs.Common.{refl}
-use Rattle.std.proofs.Common.{◌++◌}
-use Rattle.re_terms.specs.declared.replicated.Act.TheVariants.{Add}
-use Rattle.re_terms.specs.Entries.{Merge}
-use Rattle.re_terms.specs.Limits.{updates_made}
-use Rattle.re_terms.specs.Lines.{acknowledged}
-use Rattle.re_terms.specs.Updates.{Update, greatest_number, vector_of, greatest_stamp, stamp_in}
-use Rattle.re_terms.specs.Values.{total_amount}
-use Rattle.re_terms.specs.Vectors.{by_device, covers}
-use Rattle.re_terms.specs.Worlds.{Packet}
-use Rattle.re_terms.proofs.WorldPrograms.{operated, on}
-use Rattle.std.proofs.Common.{◌≡◌, ℕ, ℤ, pos, List, [], ◌∷◌, ap, ◌∙◌}
+use Rattle.std.proofs.Common.{refl, ◌++◌, ◌≡◌, ℕ, ℤ, pos, List, [], ◌∷◌, ap, ◌∙◌}
 use Rattle.std.specs.Prelude.{unwrap_or}
 use Rattle.re_terms.specs.declared.command.Command.TheVariants as command
 use Rattle.re_terms.specs.declared.expr.Expr.{Expr}
@@ -20,18 +9,23 @@ use Rattle.re_terms.specs.declared.expr.Expr.TheVariants as expr
 use Rattle.re_terms.specs.declared.expr.Op.TheVariants as op
 use Rattle.re_terms.specs.declared.program.Body.TheVariants as body
 use Rattle.re_terms.specs.declared.program.Program.{Program}
+use Rattle.re_terms.specs.declared.replicated.Act.TheVariants.{Add}
 use Rattle.re_terms.specs.declared.word.Kind.TheVariants as kind
 use Rattle.re_terms.specs.declared.word.Word.{Word}
 use Rattle.re_terms.specs.declared.word.Word.TheVariants as word
 use Rattle.re_terms.specs.Arithmetic.{operator_word}
 use Rattle.re_terms.specs.DeviceWorlds.{blank_world}
-use Rattle.re_terms.specs.Entries.{PlainEntry, entry_after, run_entries, turn_entry}
-use Rattle.re_terms.specs.Lines.{Done, replies}
+use Rattle.re_terms.specs.Entries.{Merge, PlainEntry, entry_after, run_entries, turn_entry}
+use Rattle.re_terms.specs.Limits.{updates_made}
+use Rattle.re_terms.specs.Lines.{acknowledged, Done, replies}
 use Rattle.re_terms.specs.Meaning.{Environment, meaning, meaning_step}
 use Rattle.re_terms.specs.Runs.{PlainState, plain_start}
+use Rattle.re_terms.specs.Updates.{Update, greatest_number, vector_of, greatest_stamp, stamp_in}
+use Rattle.re_terms.specs.Values.{total_amount}
+use Rattle.re_terms.specs.Vectors.{by_device, covers}
 use Rattle.re_terms.specs.WordOrder.{same_word}
-use Rattle.re_terms.specs.Worlds.{Entered, Value, Down, Up, shown}
-use Rattle.re_terms.proofs.WorldPrograms.{declared, program, int, set_to, fine}
+use Rattle.re_terms.specs.Worlds.{Packet, Entered, Value, Down, Up, shown}
+use Rattle.re_terms.proofs.WorldPrograms.{operated, on, declared, program, int, set_to, fine}
 
 -- `self + 1`
 abbrev one_more : Expr
@@ -47,11 +41,11 @@ one_more_is env =
 abbrev changing : Program
 changing =
     program (
-      declared body.Device
-      ∷ declared (body.Var kind.Int (int (pos 1)) 1)
-      ∷ declared (body.Changed 1)
-      ∷ declared (body.Fold kind.Int (int (pos 0)) 2 one_more 1)
-      ∷ []
+    declared body.Device
+    ∷ declared (body.Var kind.Int (int (pos 1)) 1)
+    ∷ declared (body.Changed 1)
+    ∷ declared (body.Fold kind.Int (int (pos 0)) 2 one_more 1)
+    ∷ []
     )
 
 -- x and n
@@ -101,12 +95,12 @@ restarted_is = ap (λ s. Entered 1 ∷ Entered 2 ∷ Entered 3 ∷ Down ∷ Up 3
 abbrev watched : Program
 watched =
     program (
-      declared body.Device
-      ∷ declared body.Device
-      ∷ declared body.Counter
-      ∷ declared (body.Changed 2)
-      ∷ declared (body.Fold kind.Int (int (pos 0)) 3 one_more 1)
-      ∷ []
+    declared body.Device
+    ∷ declared body.Device
+    ∷ declared body.Counter
+    ∷ declared (body.Changed 2)
+    ∷ declared (body.Fold kind.Int (int (pos 0)) 3 one_more 1)
+    ∷ []
     )
 
 abbrev out_of_order : List Done

@@ -1,8 +1,8 @@
 -- What a device has taken in, and the parts of a log, where the log grows and where a packet is merged.
 use Rattle.std.proofs.Common.{◌≡◌, ◌≢◌, ℕ, ◌+◌, ◌≤◌, List, [], ◌∷◌, ◌++◌, refl, sym, ap, ◌∙◌, subst, arith, inl, inr, length, append_assoc}
-use Rattle.std.specs.Prelude.{slice_index}
 use Rattle.std.proofs.lemmas.Bool.{cases_lt}
 use Rattle.std.proofs.lemmas.List.{append-nil}
+use Rattle.std.specs.Prelude.{slice_index}
 use Rattle.re_terms.specs.declared.replicated.Dot.{Dot}
 use Rattle.re_terms.specs.declared.replicated.Shape.{Shape}
 use Rattle.re_terms.specs.Entries.{PlainEntry, Turn, Merge, taken_after, updates_of, run_taken, run_updates}

@@ -1,25 +1,26 @@
 -- Worked sessions with sets, by the definitions of worlds and lines.
+use Rattle.std.proofs.Common.{ℤ, negsuc, ◌+◌, ◌≡◌, ℕ, pos, List, [], ◌∷◌, ◌++◌, Option, Some, None, cond, length, refl, ap, ◌∙◌}
 use Rattle.std.specs.List.Sorted.{IsStrictlySortedBy}
-use Rattle.std.proofs.Common.{◌≡◌, ℕ, pos, ◌+◌, List, [], ◌∷◌, ◌++◌, Option, Some, None, cond, length, refl, ap, ◌∙◌}
-use Rattle.std.specs.Prelude.{nat_lt, option_map, unwrap_or}
 use Rattle.std.specs.Option.{option_map_or, option_or}
+use Rattle.std.specs.Prelude.{nat_lt, option_map, unwrap_or}
 use Rattle.re_terms.specs.declared.command.Command.{Command}
 use Rattle.re_terms.specs.declared.command.Command.TheVariants as command
 use Rattle.re_terms.specs.declared.program.Body.TheVariants as body
 use Rattle.re_terms.specs.declared.program.Program.{Program}
-use Rattle.re_terms.specs.declared.replicated.Act.TheVariants.{Insert, Remove}
+use Rattle.re_terms.specs.declared.replicated.Act.TheVariants.{Add, Insert, Remove}
 use Rattle.re_terms.specs.declared.replicated.Pair.{Pair}
 use Rattle.re_terms.specs.declared.word.Kind.TheVariants as kind
 use Rattle.re_terms.specs.declared.word.Word.{Word}
 use Rattle.re_terms.specs.CellStates.{inserted, takes, live, pairs_of, has_pair}
 use Rattle.re_terms.specs.DeviceWorlds.{World, blank_world, done_answer, done_world, refusal}
-use Rattle.re_terms.specs.Limits.{OperationFault, SetFull}
+use Rattle.re_terms.specs.Limits.{CounterFull, OperationFault, SetFull}
 use Rattle.re_terms.specs.Lines.{Done, replies}
 use Rattle.re_terms.specs.Spellings.{packet_bytes, state_bytes, vector_bytes, pairs_bytes, pair_bytes, word_bytes}
 use Rattle.re_terms.specs.Updates.{greatest_number, vector_of, greatest_stamp, stamp_in}
+use Rattle.re_terms.specs.Values.{total_amount}
 use Rattle.re_terms.specs.Vectors.{by_device, covers}
 use Rattle.re_terms.specs.WordOrder.{ascending, ascending_words, same_word, pair_cmp}
-use Rattle.re_terms.specs.Worlds.{PlainAnswer, Entered, Members, Packet, Hex, Refused, limit_code}
+use Rattle.re_terms.specs.Worlds.{Value, Refused, PlainAnswer, Entered, Members, Packet, Hex, limit_code}
 use Rattle.re_terms.proofs.WordOrders.{ascending_is, ascending_words_is}
 use Rattle.re_terms.proofs.WorldPrograms.{declared, program, int, operated, on, fine, eight}
 
@@ -147,3 +148,53 @@ both_sent_is =
     (done_step sets (done_world (done_world inserted_world remove_four) (command.Send 0)) (command.Send 1) merge_both _ refl
     (done_step sets sent_world (command.Deliver 0 1) (fine (command.Deliver 1 0) ∷ read_both) _ merge_fits
     (done_step sets delivered_world (command.Deliver 1 0) read_both _ back_fits read_is)))))
+
+-- ---- a counter's totals, beside a set
+
+-- `device a; counter c; set s: int;`
+abbrev counting_set : Program
+counting_set = program (declared body.Device ∷ declared body.Counter ∷ declared (body.Set kind.Int) ∷ [])
+
+abbrev add : ℤ → Command
+add n = command.Turn 0 (operated (on 0 (Add n) ∷ []))
+
+abbrev full_world : World
+full_world = done_world (blank_world counting_set) (add (pos 9223372036854775807))
+
+abbrev less_world : World
+less_world = done_world full_world (add (negsuc 0))
+
+-- the limit of pairs of the set behind the counter
+abbrev with_room_behind : List Pair → Option OperationFault → Option OperationFault
+with_room_behind ps f = cond (nat_lt 1024 (0 + (length ps + 0))) (Some SetFull) f
+
+most_fits : refusal counting_set (blank_world counting_set) (add (pos 9223372036854775807)) ≡ None
+unfolding vector_of greatest_number by_device covers greatest_stamp stamp_in pairs_of live inserted takes has_pair
+most_fits = λ i. limited (option_or (with_room_behind (no_pair i) None) None)
+
+one_too_many : refusal counting_set full_world (add (pos 1)) ≡ Some (Refused 31)
+unfolding vector_of greatest_number by_device covers greatest_stamp stamp_in pairs_of live inserted takes has_pair
+one_too_many = λ i. limited (option_or (with_room_behind (no_pair i) (Some CounterFull)) None)
+
+one_less_fits : refusal counting_set full_world (add (negsuc 0)) ≡ None
+unfolding vector_of greatest_number by_device covers greatest_stamp stamp_in pairs_of live inserted takes has_pair
+one_less_fits = λ i. limited (option_or (with_room_behind (no_pair i) None) None)
+
+least_too_many : refusal counting_set less_world (add (negsuc 9223372036854775807)) ≡ Some (Refused 31)
+unfolding vector_of greatest_number by_device covers greatest_stamp stamp_in pairs_of live inserted takes has_pair
+least_too_many = λ i. limited (option_or (with_room_behind (no_pair i) (Some CounterFull)) None)
+
+abbrev least_last : List Done
+least_last = fine (add (negsuc 9223372036854775807)) ∷ []
+
+abbrev totals : List Done
+totals = fine (add (pos 9223372036854775807)) ∷ fine (add (pos 1)) ∷ fine (add (negsuc 0)) ∷ fine (command.Get 0 1) ∷ least_last
+
+totals_are : replies counting_set (blank_world counting_set) totals ≡ Entered 1 ∷ Refused 31 ∷ Entered 2 ∷ Value (int (pos 9223372036854775806)) ∷ Refused 31 ∷ []
+unfolding total_amount
+totals_are =
+    done_step counting_set (blank_world counting_set) (add (pos 9223372036854775807)) (fine (add (pos 1)) ∷ fine (add (negsuc 0)) ∷ fine (command.Get 0 1) ∷ least_last) _ most_fits
+    (refused_step counting_set full_world (add (pos 1)) (fine (add (negsuc 0)) ∷ fine (command.Get 0 1) ∷ least_last) (Refused 31) _ one_too_many
+    (done_step counting_set full_world (add (negsuc 0)) (fine (command.Get 0 1) ∷ least_last) _ one_less_fits
+    (done_step counting_set less_world (command.Get 0 1) least_last _ refl
+    (refused_step counting_set less_world (add (negsuc 9223372036854775807)) [] (Refused 31) [] least_too_many refl))))

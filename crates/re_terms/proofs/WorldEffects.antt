@@ -1,31 +1,22 @@
 -- What a step of the world does to its device: what is settled, and how its entries are numbered.
-use Rattle.std.proofs.Common.{Option}
-use Rattle.re_terms.specs.DeviceWorlds.{Failed, calls_files, doubt}
-use Rattle.re_terms.proofs.WorldSteps.{failed_after}
-use Rattle.std.specs.Option.{option_map_or}
-use Rattle.re_terms.specs.declared.word.Word.{Word}
-use Rattle.re_terms.specs.declared.command.Command.{Command}
+use Rattle.std.proofs.Common.{Option, ◌+◌, Bool, true, false, inl, inr, arith, length, length-append, ◌≡◌, ℕ, List, [], ◌∷◌, ◌++◌, Some, None, refl, sym, ap, ◌∙◌, subst}
+use Rattle.std.proofs.lemmas.Bool.Decides.{nat_tests}
 use Rattle.std.proofs.lemmas.Option.{slice_get_cases}
-use Rattle.std.specs.Prelude.{nat_le, ◌==◌, if◌then◌else◌}
-use Rattle.std.proofs.lemmas.Bool.Decides.{nat_tests}
+use Rattle.std.specs.Option.{option_map_or}
+use Rattle.std.specs.Prelude.{nat_le, ◌==◌, if◌then◌else◌, option_map, slice_get}
 use mathlib.Core.Bool.{true≢false}
-use Rattle.re_terms.proofs.WorldSteps.{accepted, has_packet, answered}
-use Rattle.re_terms.specs.DeviceWorlds.{lacks_packet, is_for, last_number, settled_number, reply, Outcome, done_answer, done_world, with_at}
-use Rattle.re_terms.specs.Worlds.{PlainAnswer, Entered, Applied, Settled, Value, Members, Up, is_set_at, shown}
-use Rattle.std.proofs.Common.{◌+◌, Bool, true, false, inl, inr, arith, length, length-append}
-use Rattle.std.proofs.Common.{◌≡◌, ℕ, ◌+◌, Bool, true, false, List, [], ◌∷◌, ◌++◌, Some, None, refl, sym, ap, ◌∙◌, subst, arith, length, length-append}
-use Rattle.std.specs.Prelude.{◌==◌, if◌then◌else◌, option_map, slice_get}
-use Rattle.std.proofs.lemmas.Bool.Decides.{nat_tests}
+use Rattle.re_terms.specs.declared.command.Command.{Command}
 use Rattle.re_terms.specs.declared.command.Command.TheVariants as command
 use Rattle.re_terms.specs.declared.entry.Admitted.{Admitted}
 use Rattle.re_terms.specs.declared.program.Program.{Program}
-use Rattle.re_terms.specs.DeviceWorlds.{World, Fine, counted, device_state, entries_of, last_number, put_up, record_of, recovered, refusal, settle, settled_number, settled_state, settled_taken, taken, world_after}
+use Rattle.re_terms.specs.declared.word.Word.{Word}
+use Rattle.re_terms.specs.DeviceWorlds.{Failed, calls_files, doubt, lacks_packet, is_for, last_number, settled_number, reply, Outcome, done_answer, done_world, with_at, World, Fine, counted, device_state, entries_of, put_up, record_of, recovered, refusal, settle, settled_state, settled_taken, taken, world_after}
 use Rattle.re_terms.specs.Entries.{PlainEntry, Merge, entry_after, run_entries, run_taken, turn_entry}
 use Rattle.re_terms.specs.Runs.{PlainState}
 use Rattle.re_terms.specs.Untouched.{HasSettled}
 use Rattle.re_terms.specs.Updates.{Update}
 use Rattle.re_terms.specs.Worlds.{PlainAnswer, Entered, Applied, Settled, Value, Members, Up, is_set_at, shown}
-use Rattle.re_terms.proofs.WorldSteps.{done_after, with_at-same}
+use Rattle.re_terms.proofs.WorldSteps.{failed_after, accepted, has_packet, answered, done_after, with_at-same}
 
 -- ---- what is taken in
 

@@ -1,21 +1,19 @@
 -- Worked sessions of one device, by the definitions of worlds and lines.
-use Rattle.std.proofs.Common.{◌≡◌, pos, negsuc, Bool, true, false, List, [], ◌∷◌, refl}
+use Rattle.std.proofs.Common.{◌≡◌, pos, Bool, true, false, List, [], ◌∷◌, refl}
 use Rattle.re_terms.specs.declared.command.Command.TheVariants as command
-use Rattle.re_terms.specs.declared.expr.Expr.TheVariants as expr
-use Rattle.re_terms.specs.declared.expr.Op.TheVariants as op
 use Rattle.re_terms.specs.declared.program.Body.TheVariants as body
 use Rattle.re_terms.specs.declared.program.Program.{Program}
 use Rattle.re_terms.specs.declared.replicated.Act.TheVariants.{Add}
 use Rattle.re_terms.specs.declared.word.Kind.TheVariants as kind
-use Rattle.re_terms.specs.CellStates.{row_of, inserted, takes, live, pairs_of, has_pair}
+use Rattle.re_terms.specs.CellStates.{row_of}
 use Rattle.re_terms.specs.DeviceWorlds.{blank_world}
 use Rattle.re_terms.specs.Entries.{turn_entry}
 use Rattle.re_terms.specs.Lines.{Done, worlds_after, replies, acknowledged, line_at}
 use Rattle.re_terms.specs.Spellings.{packet_bytes, state_bytes, vector_bytes, rows_bytes}
 use Rattle.re_terms.specs.Updates.{greatest_number, vector_of, greatest_stamp, stamp_in}
-use Rattle.re_terms.specs.Vectors.{by_device, covers}
 use Rattle.re_terms.specs.Values.{total_amount}
-use Rattle.re_terms.specs.WordOrder.{same_word, ascending_by}
+use Rattle.re_terms.specs.Vectors.{by_device, covers}
+use Rattle.re_terms.specs.WordOrder.{same_word}
 use Rattle.re_terms.specs.Worlds.{Entered, Applied, Settled, Value, Packet, Hex, Down, Up, Refused, StoppedAt}
 use Rattle.re_terms.proofs.WorldPrograms.{declared, program, int, operated, on, set_to, fine, fails}
 
@@ -45,31 +43,6 @@ unsent_is = refl
 first_packet : (worlds_after counting (blank_world counting) unsent).packets ≡ [] ∷ (worlds_after counting (blank_world counting) unsent).log ∷ []
 unfolding vector_of greatest_number by_device covers greatest_stamp stamp_in
 first_packet = refl
-
--- ---- turns, a fold that counts changes, and a restart with all of them
-
--- `device a; var x: int = 1; event e = changed(x); fold n: int = 0 on e do self + 1;`
-abbrev changing : Program
-changing =
-    program (
-    declared body.Device
-    ∷ declared (body.Var kind.Int (int (pos 1)) 1)
-    ∷ declared (body.Changed 1)
-    ∷ declared (body.Fold kind.Int (int (pos 0)) 2 (expr.Bin op.Add expr.Own (expr.Lit (int (pos 1)))) 1)
-    ∷ []
-    )
-
-abbrev restarted : List Done
-restarted =
-    fine (command.Turn 0 (set_to 1 (int (pos 2))))
-    ∷ fine (command.Turn 0 (set_to 1 (int (pos 3))))
-    ∷ fine (command.Turn 0 (set_to 1 (int (pos 4))))
-    ∷ fine (command.Crash 0)
-    ∷ fine (command.Restart 0)
-    ∷ fine (command.Get 0 1)
-    ∷ fine (command.Get 0 3)
-    ∷ fine (command.Turn 0 (set_to 1 (int (pos 5))))
-    ∷ []
 
 -- ---- a commit that fails: the device is stopped, and its entry is in doubt
 
@@ -109,21 +82,6 @@ dropped_line = refl
 
 recovered_told : acknowledged holding (blank_world holding) (failed true) 4 0 ≡ 1
 recovered_told = refl
-
--- ---- a counter's totals
-
-abbrev totals : List Done
-totals =
-    fine (command.Turn 0 (operated (on 0 (Add (pos 9223372036854775807)) ∷ [])))
-    ∷ fine (command.Turn 0 (operated (on 0 (Add (pos 1)) ∷ [])))
-    ∷ fine (command.Turn 0 (operated (on 0 (Add (negsuc 0)) ∷ [])))
-    ∷ fine (command.Get 0 1)
-    ∷ fine (command.Turn 0 (operated (on 0 (Add (negsuc 9223372036854775807)) ∷ [])))
-    ∷ []
-
-totals_are : replies counting (blank_world counting) totals ≡ Entered 1 ∷ Refused 31 ∷ Entered 2 ∷ Value (int (pos 9223372036854775806)) ∷ Refused 31 ∷ []
-unfolding vector_of greatest_number by_device covers total_amount greatest_stamp stamp_in pairs_of live inserted takes has_pair ascending_by
-totals_are = refl
 
 -- ---- at most eight unsettled entries
 

@@ -1,8 +1,8 @@
 -- One step of a world of several devices.
 use Rattle.std.proofs.Common.{◌≡◌, ◌≢◌, ℕ, Bool, true, false, List, Option, Some, None, refl, sym, ap, ◌∙◌, arith, inl, inr}
-use Rattle.std.specs.Prelude.{◌==◌, ◌⊎◌, ◌↔◌, not, if◌then◌else◌, option_map, unwrap_or}
-use Rattle.std.specs.Option.{option_map_or, option_or}
 use Rattle.std.proofs.lemmas.Bool.Decides.{nat_tests}
+use Rattle.std.specs.Option.{option_map_or, option_or}
+use Rattle.std.specs.Prelude.{◌==◌, ◌⊎◌, ◌↔◌, not, if◌then◌else◌, option_map, unwrap_or}
 use mathlib.Core.Bool.{true≢false}
 use Rattle.re_terms.specs.declared.command.Command.{Command}
 use Rattle.re_terms.specs.declared.command.Command.TheVariants as command

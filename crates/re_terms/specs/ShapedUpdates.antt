@@ -17,9 +17,17 @@ use Rattle.re_terms.specs.declared.replicated.Shape.{Shape}
 abbrev pub is_operation_in : Shape → RepOp → Bool
 is_operation_in shape op = takes_operation shape.symbols shape.cells.items op
 
--- an update's device is one of the shape's, and its cell takes its act
+-- an update's device is one of the shape's
+abbrev pub is_device_in : Shape → Update → Bool
+is_device_in shape u = nat_lt u.dot.device shape.devices
+
+-- an update's cell takes its act
+abbrev pub is_act_in : Shape → Update → Bool
+is_act_in shape u = option_map_or (λ k. is_act_of shape.symbols k u.act) (slice_get shape.cells.items u.cell) false
+
+-- both
 abbrev pub is_update_of : Shape → Update → Bool
-is_update_of shape u = nat_lt u.dot.device shape.devices && option_map_or (λ k. is_act_of shape.symbols k u.act) (slice_get shape.cells.items u.cell) false
+is_update_of shape u = is_device_in shape u && is_act_in shape u
 
 -- a counter's totals are below 2^63, and a register's stamp below 2^52
 abbrev pub IsWithin : RCell → Type 0
