@@ -21,3 +21,9 @@ pub mod Values
 pub mod WordOrders
 pub mod Dots
 pub mod TakenIns
+pub mod WordMeanings
+pub mod Below
+pub mod DeclaredSorts
+pub mod KindsKept
+pub mod ReplicatedPlaces
+pub mod EntriesKept

@@ -1,6 +1,7 @@
 pub mod Admission
 pub mod Arithmetic
 pub mod CellStates
+pub mod Changes
 pub mod Dependencies
 pub mod JointLogs
 pub mod Kinds
@@ -26,5 +27,6 @@ pub mod Updates
 pub mod Values
 pub mod Vectors
 pub mod Views
+pub mod WordKinds
 pub mod WordOrder
 pub mod Worlds

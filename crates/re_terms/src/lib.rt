@@ -5,6 +5,7 @@ pub mod command;
 pub mod copying;
 pub mod entry;
 pub mod expr;
+pub mod kind_laws;
 pub mod kinds;
 pub mod laws;
 pub mod order;
