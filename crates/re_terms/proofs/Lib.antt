@@ -27,3 +27,6 @@ pub mod DeclaredSorts
 pub mod KindsKept
 pub mod ReplicatedPlaces
 pub mod EntriesKept
+pub mod RangedPlaces
+pub mod ChangesKept
+pub mod ViewsKept

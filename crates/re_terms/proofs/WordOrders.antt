@@ -8,7 +8,7 @@ use Rattle.std.specs.List.{list_any}
 use Rattle.std.proofs.lemmas.Cmp.{nat_cmp_total, int_cmp_total, then_total, on_total, tied_itself}
 use Rattle.std.specs.FinMap.{IsAntisymmetric, nat_cmp-IsAntisymmetric, int_cmp-IsAntisymmetric}
 use Rattle.std.specs.List.Sorted.{IsStrictlySortedBy}
-use Rattle.re_terms.proofs.Ascending.{ascending_by_same, any-ascending_by, ascending_by_is, ascending_by_sorted}
+use Rattle.re_terms.proofs.Ascending.{length-ascending_by, ascending_by_same, any-ascending_by, ascending_by_is, ascending_by_sorted}
 use Rattle.re_terms.specs.declared.word.Word.{Word}
 use Rattle.re_terms.specs.declared.word.Word.TheVariants.{Int, Bool as Flag, Sym, Fault}
 use Rattle.re_terms.specs.declared.replicated.Pair.{Pair}
@@ -162,3 +162,7 @@ ascending_sorted = ascending_by_sorted pair_cmp
 -- how code shows that its list is the one: it ascends, and has the members
 pub ascending_from : (ps qs : List Pair) → IsStrictlySortedBy pair_cmp ps → ((p : Pair) → list_any (eq_by_cmp pair_cmp p) ps ≡ list_any (eq_by_cmp pair_cmp p) qs) → ps ≡ ascending qs
 ascending_from ps qs s h = sym (ascending_is ps s) ∙ ascending_same ps qs h
+
+-- at most as many as before
+pub length-words : (ws : List Word) → length (ascending_words ws) ≤ length ws
+length-words = length-ascending_by word_cmp word_cmp_total

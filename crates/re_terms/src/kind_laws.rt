@@ -1,15 +1,19 @@
 //! The laws of kinds: what has a kind stands for words of that kind.
 ghost use Rattle.std.specs.Prelude.{true, ◌≡◌, ℕ, List, Some};
 ghost use Rattle.re_terms.specs.Admission.{symbol_count};
+ghost use Rattle.re_terms.specs.Changes.{with_changes};
 ghost use Rattle.re_terms.specs.Kinds.{Place, Sort, agrees_with, event_kind, expr_kind, sorts_of, value_kind};
 ghost use Rattle.re_terms.specs.Meaning.{Environment, meaning};
 ghost use Rattle.re_terms.specs.Programs.{IsProgram, has_literals};
-ghost use Rattle.re_terms.specs.Propagation.{Step, effect};
+ghost use Rattle.re_terms.specs.Propagation.{Step, changes, effect, words_after};
+ghost use Rattle.re_terms.specs.Shapes.{FitsShape, shape_of, start_words};
 ghost use Rattle.re_terms.specs.SignalWords.{signal_word};
-ghost use Rattle.re_terms.specs.Views.{View};
-ghost use Rattle.re_terms.specs.WordKinds.{AreWordsOf, IsEnvironmentOf, IsStepOf, IsViewOf, is_word_or_fault};
+ghost use Rattle.re_terms.specs.Views.{View, view_of};
+ghost use Rattle.re_terms.specs.WordKinds.{AreChangesOf, AreWordsOf, IsEnvironmentOf, IsStepOf, IsViewOf, is_word_or_fault};
+ghost use Rattle.re_terms.specs.declared.entry.Put.{Put};
 ghost use Rattle.re_terms.specs.declared.expr.Expr.{Expr};
 ghost use Rattle.re_terms.specs.declared.program.Program.{Program};
+ghost use Rattle.re_terms.specs.declared.replicated.RState.{RState};
 ghost use Rattle.re_terms.specs.declared.word.Kind.{Kind};
 ghost use Rattle.re_terms.specs.declared.word.Word.{Word};
 
@@ -19,13 +23,26 @@ pub fn meaning_kind_law()
     ensures { (symbols : ℕ) (sorts : List Sort) (place : Place) (env : Environment) (e : Expr) (k : Kind) → agrees_with k (expr_kind sorts place e) ≡ true → has_literals symbols e ≡ true → IsEnvironmentOf symbols sorts place env → is_word_or_fault symbols k (meaning e env) ≡ true }
 {}
 
-/// The words of vars, folds, signals, counters and registers are of their kinds or faults.
+/// A program's start words are of their kinds, and so is what a replicated state of its shape shows. Over words and a view
+/// of their kinds the word of each var, signal, fold, counter and register is of its kind or a fault.
 pub fn name_kind_law()
+    ensures start { (p : Program) → IsProgram p → AreWordsOf p (start_words p.decls.items) }
+    ensures view { (p : Program) (r : RState) → IsProgram p → FitsShape (shape_of p) r → IsViewOf p (view_of r) }
     ensures names { (p : Program) (words : List Word) (view : View) (id : ℕ) (k : Kind) → IsProgram p → AreWordsOf p words → IsViewOf p view → value_kind (sorts_of p.decls.items) id ≡ Some k → is_word_or_fault (symbol_count p.decls.items) k (signal_word p words view id) ≡ true }
 {}
 
-/// After an entry.
+/// An entry that sets vars and fires source events to words of their kinds, over words and views of their kinds: after it
+/// each name has a word of its kind or a fault, each event that occurs a value of its kind or a fault, and the words of
+/// vars and folds are of their kinds again. What it changes are vars and folds, by ascending ids, to words that these may
+/// keep.
 pub fn entry_kind_law()
     ensures names { (p : Program) (s : Step) (id : ℕ) (k : Kind) → IsProgram p → IsStepOf p s → value_kind (sorts_of p.decls.items) id ≡ Some k → is_word_or_fault (symbol_count p.decls.items) k (effect p s id).word ≡ true }
     ensures values { (p : Program) (s : Step) (id : ℕ) (k : Kind) (w : Word) → IsProgram p → IsStepOf p s → event_kind (sorts_of p.decls.items) id ≡ Some k → (effect p s id).occurrence ≡ Some w → is_word_or_fault (symbol_count p.decls.items) k w ≡ true }
+    ensures words { (p : Program) (s : Step) → IsProgram p → IsStepOf p s → AreWordsOf p (words_after p s) }
+    ensures changes { (p : Program) (s : Step) → IsProgram p → IsStepOf p s → AreChangesOf p (changes p s) }
+{}
+
+/// Changes of vars and folds, put into words of their kinds, give words of their kinds.
+pub fn change_kind_law()
+    ensures { (p : Program) (words : List Word) (puts : List Put) → AreWordsOf p words → AreChangesOf p puts → AreWordsOf p (with_changes p.decls.items words puts) }
 {}
