@@ -8,7 +8,7 @@ use Rattle.std.specs.Cmp.{IsTotalOrder}
 use Rattle.std.specs.List.{list_any, AllByRecursion}
 use Rattle.std.specs.List.Sorted.{IsStrictlySortedBy}
 use Rattle.std.proofs.lemmas.List.{length-map}
-use Rattle.std.specs.FinMap.{IsAntisymmetric, empty, entries-insert, keys, entries, entries_sorted, from_entries, get, get-entries, get-from_entries, contains_key-keys, same_map}
+use Rattle.std.specs.FinMap.{IsAntisymmetric, empty, entries-insert, len-empty, len-entries, keys, entries, entries_sorted, from_entries, get, get-entries, get-from_entries, contains_key-keys, same_map}
 use Rattle.std.specs.FinMap.Entries.{find, length-put, below_all, is_sorted, is_some-find, same_entries}
 use Rattle.re_terms.specs.WordOrder.{ascending_by}
 
@@ -92,8 +92,7 @@ module _ {K : Type 0} (R : K → K → Ordering) (o : IsTotalOrder R) where
   one_at_most false n = omega arith
 
   entered : (ks : List K) → length (entries (from_entries {R = R} (marked ks))) ≤ length ks
-  unfolding entries empty
-  entered [] = omega arith
+  entered [] = omega (arith, len-entries (empty {X = Unit {0}} {R = R}), len-empty R (Unit {0}))
   entered (k ∷ ks) =
       let m = from_entries {R = R} (marked ks) in
       let e : length (entries (from_entries {R = R} (marked (k ∷ ks)))) ≡ cond (is_some (find R k (entries m))) (length (entries m)) (length (entries m) + 1) = ap length (entries-insert o m k (tt {0})) ∙ length-put R o k (tt {0}) (entries m) (entries_sorted m) in
@@ -101,5 +100,5 @@ module _ {K : Type 0} (R : K → K → Ordering) (o : IsTotalOrder R) where
 
   -- at most as many as before
   pub length-ascending_by : (ks : List K) → length (ascending_by R ks) ≤ length ks
-  unfolding ascending_by keys
+  unfolding ascending_by
   length-ascending_by ks = omega (arith, length-map (entries (from_entries {R = R} (marked ks))) (λ e. e.0), entered ks)

@@ -30,3 +30,4 @@ pub mod EntriesKept
 pub mod RangedPlaces
 pub mod ChangesKept
 pub mod ViewsKept
+pub mod StateLengths

@@ -1,7 +1,7 @@
 -- What a state of a program begins with and shows is of its kinds.
 use Rattle.std.proofs.Common.{◌≡◌, ◌<◌, ◌≤◌, ◌+◌, ◌⊎◌, inl, inr, ℕ, zero, suc, Bool, true, false, ◌&&◌, cond, List, [], ◌∷◌, length, map, take, refl, sym, ap, subst, ◌∙◌, arith}
-use Rattle.std.specs.Prelude.{pos, Option, None, Some, is_some, slice_get, slice_index_or, count_by, nat_le}
-use Rattle.std.specs.List.{cons_option, sum_by}
+use Rattle.std.specs.Prelude.{pos, ◌-ℤ◌, Option, None, Some, is_some, slice_get, slice_index_or, count_by, nat_le}
+use Rattle.std.specs.List.{cons_option, sum, sum_by}
 use Rattle.std.proofs.lemmas.Bool.{cases_eq}
 use Rattle.std.proofs.lemmas.List.{length-map}
 use Rattle.std.proofs.lemmas.List.Sums.{sum_by-cons, sum_by-take-le}
@@ -61,7 +61,7 @@ module _ (p : Program) (program : IsProgram p) where
   written_by k start word (suc n) is none some = some (omega arith)
 
   shown : (counts : List ℕ) (place : ℕ) (k : RKind) (c : RCell) → slice_get (replicated_kinds p.decls.items) place ≡ Some k → FitsKind (shape_of p) counts k c → is_shown_word (symbol_count p.decls.items) k (cell_word (Some c)) ≡ true
-  shown counts place replicated.Counter (cell.Counter rows) at fits = whole_word (symbol_count p.decls.items) _
+  shown counts place replicated.Counter (cell.Counter rows) at fits = whole_word (symbol_count p.decls.items) (pos (sum rows.plus) -ℤ pos (sum rows.minus))
   shown counts place replicated.Counter (cell.Set pairs) at fits = absurd fits
   shown counts place replicated.Counter (cell.Register w) at fits = absurd fits
   shown counts place (replicated.Set k) c at fits = refl

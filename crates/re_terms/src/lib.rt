@@ -8,6 +8,7 @@ pub mod expr;
 pub mod kind_laws;
 pub mod kinds;
 pub mod laws;
+pub mod length_laws;
 pub mod order;
 pub mod program;
 pub mod raw;
