@@ -31,3 +31,5 @@ pub mod RangedPlaces
 pub mod ChangesKept
 pub mod ViewsKept
 pub mod StateLengths
+pub mod StartStates
+pub mod StatesKept

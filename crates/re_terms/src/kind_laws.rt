@@ -1,16 +1,19 @@
 //! The laws of kinds: what has a kind stands for words of that kind.
 ghost use Rattle.std.specs.Prelude.{true, ◌≡◌, ℕ, List, Some};
-ghost use Rattle.re_terms.specs.Admission.{symbol_count};
+ghost use Rattle.re_terms.specs.Admission.{IsEntryOf, symbol_count};
 ghost use Rattle.re_terms.specs.Changes.{with_changes};
 ghost use Rattle.re_terms.specs.Kinds.{Place, Sort, agrees_with, event_kind, expr_kind, sorts_of, value_kind};
+ghost use Rattle.re_terms.specs.Listed.{plain};
 ghost use Rattle.re_terms.specs.Meaning.{Environment, meaning};
 ghost use Rattle.re_terms.specs.Programs.{IsProgram, has_literals};
-ghost use Rattle.re_terms.specs.Propagation.{Step, changes, effect, words_after};
-ghost use Rattle.re_terms.specs.Shapes.{FitsShape, shape_of, start_words};
+ghost use Rattle.re_terms.specs.Propagation.{Step, changes, effect, step_in, words_after};
+ghost use Rattle.re_terms.specs.Shapes.{FitsShape, shape_of, start_state, start_words};
 ghost use Rattle.re_terms.specs.SignalWords.{signal_word};
 ghost use Rattle.re_terms.specs.Views.{View, view_of};
-ghost use Rattle.re_terms.specs.WordKinds.{AreChangesOf, AreWordsOf, IsEnvironmentOf, IsStepOf, IsViewOf, is_word_or_fault};
+ghost use Rattle.re_terms.specs.WordKinds.{AreChangesOf, AreWordsOf, IsEnvironmentOf, IsStateOf, IsStepOf, IsViewOf, is_word_or_fault};
+ghost use Rattle.re_terms.specs.declared.entry.Entry.{Entry};
 ghost use Rattle.re_terms.specs.declared.entry.Put.{Put};
+ghost use Rattle.re_terms.specs.declared.entry.State.{State};
 ghost use Rattle.re_terms.specs.declared.expr.Expr.{Expr};
 ghost use Rattle.re_terms.specs.declared.program.Program.{Program};
 ghost use Rattle.re_terms.specs.declared.replicated.RState.{RState};
@@ -40,6 +43,14 @@ pub fn entry_kind_law()
     ensures values { (p : Program) (s : Step) (id : ℕ) (k : Kind) (w : Word) → IsProgram p → IsStepOf p s → event_kind (sorts_of p.decls.items) id ≡ Some k → (effect p s id).occurrence ≡ Some w → is_word_or_fault (symbol_count p.decls.items) k w ≡ true }
     ensures words { (p : Program) (s : Step) → IsProgram p → IsStepOf p s → AreWordsOf p (words_after p s) }
     ensures changes { (p : Program) (s : Step) → IsProgram p → IsStepOf p s → AreChangesOf p (changes p s) }
+{}
+
+/// A program begins with a state of it. An entry of the program, over a state of it and with a replicated state of its
+/// shape behind it, has what the laws of entries ask for, and the words after it stand in a state of the program again.
+pub fn state_kind_law()
+    ensures start { (p : Program) → IsProgram p → IsStateOf p (start_state p) }
+    ensures step { (p : Program) (s : State) (e : Entry) (after : RState) → IsProgram p → IsStateOf p s → IsEntryOf p e → FitsShape (shape_of p) after → IsStepOf p (step_in s e after) }
+    ensures after { (p : Program) (s : State) (e : Entry) (after : RState) → IsProgram p → IsStateOf p s → IsEntryOf p e → FitsShape (shape_of p) after → IsStateOf p (record { words = plain (words_after p (step_in s e after)); rep = after }) }
 {}
 
 /// Changes of vars and folds, put into words of their kinds, give words of their kinds.
