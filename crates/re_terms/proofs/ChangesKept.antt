@@ -38,7 +38,7 @@ range_rises n = sorted_from_strictly_increasing (range_with_len 0 n) rising
         let room : k + 1 < n = omega (arith, inside, length-range_with_len 0 n) in
         omega (arith, get_or-range_with_len 0 n k 0 (omega arith), get_or-range_with_len 0 n (k + 1) 0 room)
 
-cells_agree : (decls : List Decl) → Agrees (is_cell_at decls) is_cell 0 decls
+pub cells_agree : (decls : List Decl) → Agrees (is_cell_at decls) is_cell 0 decls
 cells_agree decls i d at = let e : 0 + i ≡ i = omega arith in ap (is_cell_at decls) e ∙ ap (λ o. option_map_or is_cell o false) at
 
 module _ (p : Program) (program : IsProgram p) (s : Step) (step : IsStepOf p s) where
@@ -103,7 +103,7 @@ rises (x ∷ decls) (suc a) (suc b) d order at cell within =
     let rest = rises decls a b d (omega arith) at cell (omega arith) in
     omega (arith, rest, sum_by-cons (λ y. cond (is_cell y) 1 0) x (take a decls), sum_by-cons (λ y. cond (is_cell y) 1 0) x (take b decls))
 
-place_within : (decls : List Decl) (id : ℕ) (d : Decl) → slice_get decls id ≡ Some d → is_cell d ≡ true → cell_place decls id < count_by is_cell decls
+pub place_within : (decls : List Decl) (id : ℕ) (d : Decl) → slice_get decls id ≡ Some d → is_cell d ≡ true → cell_place decls id < count_by is_cell decls
 place_within decls id d found cell =
     let at = get_or_from_slice_get decls id d d found in
     let n : ℕ = 1 in
@@ -111,7 +111,7 @@ place_within decls id d found cell =
     omega (arith, one, sum_by_more_le (λ x. cond (is_cell x) 1 0) decls id d (slice_get_within decls id d found))
 
 -- no two vars or folds have one place
-same_place : (decls : List Decl) (a b : ℕ) (d e : Decl) → slice_get decls a ≡ Some d → is_cell d ≡ true → slice_get decls b ≡ Some e → is_cell e ≡ true → cell_place decls a ≡ cell_place decls b → a ≡ b
+pub same_place : (decls : List Decl) (a b : ℕ) (d e : Decl) → slice_get decls a ≡ Some d → is_cell d ≡ true → slice_get decls b ≡ Some e → is_cell e ≡ true → cell_place decls a ≡ cell_place decls b → a ≡ b
 same_place decls a b d e at cell other_at other_cell same =
     elim (cases_eq a b) [
       | inl is ↦ is

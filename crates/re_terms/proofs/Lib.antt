@@ -33,3 +33,4 @@ pub mod ViewsKept
 pub mod StateLengths
 pub mod StartStates
 pub mod StatesKept
+pub mod PutWords

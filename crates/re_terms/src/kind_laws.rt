@@ -1,6 +1,7 @@
 //! The laws of kinds: what has a kind stands for words of that kind.
-ghost use Rattle.std.specs.Prelude.{true, ◌≡◌, ℕ, List, Some};
+ghost use Rattle.std.specs.Prelude.{true, ◌≡◌, ℕ, List, Some, count_by, length};
 ghost use Rattle.re_terms.specs.Admission.{IsEntryOf, symbol_count};
+ghost use Rattle.re_terms.specs.Cells.{is_cell};
 ghost use Rattle.re_terms.specs.Changes.{with_changes};
 ghost use Rattle.re_terms.specs.Kinds.{Place, Sort, agrees_with, event_kind, expr_kind, sorts_of, value_kind};
 ghost use Rattle.re_terms.specs.Listed.{plain};
@@ -53,7 +54,9 @@ pub fn state_kind_law()
     ensures after { (p : Program) (s : State) (e : Entry) (after : RState) → IsProgram p → IsStateOf p s → IsEntryOf p e → FitsShape (shape_of p) after → IsStateOf p (record { words = plain (words_after p (step_in s e after)); rep = after }) }
 {}
 
-/// Changes of vars and folds, put into words of their kinds, give words of their kinds.
-pub fn change_kind_law()
-    ensures { (p : Program) (words : List Word) (puts : List Put) → AreWordsOf p words → AreChangesOf p puts → AreWordsOf p (with_changes p.decls.items words puts) }
+/// Changes of vars and folds, put into words of their kinds, give words of their kinds. The changes of an entry, put into
+/// the words before it, give the words after it.
+pub fn change_law()
+    ensures after { (p : Program) (s : Step) → length s.words ≡ count_by is_cell p.decls.items → with_changes p.decls.items s.words (changes p s) ≡ words_after p s }
+    ensures kinds { (p : Program) (words : List Word) (puts : List Put) → AreWordsOf p words → AreChangesOf p puts → AreWordsOf p (with_changes p.decls.items words puts) }
 {}
