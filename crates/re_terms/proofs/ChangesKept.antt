@@ -1,7 +1,7 @@
 -- The words after an entry, what it changes, and changes put into words.
-use Rattle.std.proofs.Common.{◌≡◌, ◌<◌, ◌≤◌, ◌+◌, ◌-◌, ◌⊎◌, inl, inr, ℕ, zero, suc, Bool, true, false, ◌&&◌, cond, List, [], ◌∷◌, length, map, take, get_or, refl, sym, ap, subst, ◌∙◌, arith}
+use Rattle.std.proofs.Common.{◌≡◌, ◌<◌, ◌≤◌, ◌+◌, ◌-◌, inl, inr, ℕ, zero, suc, Bool, true, false, ◌&&◌, cond, List, [], ◌∷◌, length, map, take, get_or, refl, sym, ap, subst, ◌∙◌, arith}
 use Rattle.std.specs.Prelude.{Option, None, Some, not, filter, count_by, slice_get, slice_index_or, slice_set}
-use Rattle.std.specs.List.{AllPairs, list_all, range_with_len}
+use Rattle.std.specs.List.{list_all, range_with_len}
 use Rattle.std.specs.List.Sorted.{IsStrictlySortedBy, IsStrictlyIncreasing}
 use Rattle.std.specs.Ordering.{nat_cmp}
 use Rattle.std.specs.Option.{option_map_or}
@@ -22,7 +22,7 @@ use Rattle.re_terms.specs.Admission.{symbol_count, AreAscending}
 use Rattle.re_terms.specs.Cells.{is_cell, is_cell_body, cell_place}
 use Rattle.re_terms.specs.Changes.{with_changes}
 use Rattle.re_terms.specs.Programs.{IsProgram}
-use Rattle.re_terms.specs.Propagation.{Step, effect, is_cell_at, cell_ids, words_after, differing, changes}
+use Rattle.re_terms.specs.Propagation.{Step, effect, is_cell_at, cell_ids, words_after, changes}
 use Rattle.re_terms.specs.SignalWords.{no_word, signal_word}
 use Rattle.re_terms.specs.WordOrder.{same_word}
 use Rattle.re_terms.specs.WordKinds.{AreChangesOf, AreWordsOf, IsStepOf, is_change_of, is_kept_word}
@@ -116,12 +116,12 @@ same_place decls a b d e at cell other_at other_cell same =
     elim (cases_eq a b) [
       | inl is ↦ is
       | inr other ↦
-        let a_within = slice_get_within decls a d at in
-        let b_within = slice_get_within decls b e other_at in
-        elim (cases_eq (a - b) 0) [
-          | inl low ↦ let order : a < b = omega arith in absurd (let r = rises decls a b d order at cell (omega arith) in omega arith)
-          | inr high ↦ let order : b < a = omega arith in absurd (let r = rises decls b a e order other_at other_cell (omega arith) in omega arith)
-        ]
+          let a_within = slice_get_within decls a d at in
+          let b_within = slice_get_within decls b e other_at in
+          elim (cases_eq (a - b) 0) [
+            | inl low ↦ let order : a < b = omega arith in absurd (let r = rises decls a b d order at cell (omega arith) in omega arith)
+            | inr high ↦ let order : b < a = omega arith in absurd (let r = rises decls b a e order other_at other_cell (omega arith) in omega arith)
+          ]
     ]
 
 kept_is_cell : (symbols : ℕ) (b : Body) (w : Word) → is_kept_word symbols b w ≡ true → is_cell_body b ≡ true
@@ -148,16 +148,16 @@ module _ (p : Program) where
         let c_cell = kept_is_cell (symbol_count p.decls.items) c.of.body x.word c.kept in
         elim (cases_eq (cell_place p.decls.items id) (cell_place p.decls.items x.id)) [
           | inl same ↦
-            let one : id ≡ x.id = same_place p.decls.items id x.id d c.of at cell c.at c_cell same in
-            let declaration : Some c.of ≡ Some d = sym c.at ∙ ap (slice_get p.decls.items) (sym one) ∙ at in
-            let alike : c.of ≡ d = cc in
-            let within = place_within p.decls.items x.id c.of c.at c_cell in
-            let count = are.count in
-            subst (λ i. is_kept_word (symbol_count p.decls.items) d.body (slice_index_or (slice_set words (cell_place p.decls.items x.id) x.word) i no_word) ≡ true) (sym same)
-            (subst (λ w. is_kept_word (symbol_count p.decls.items) d.body w ≡ true) (sym (get_or-set_same words (cell_place p.decls.items x.id) x.word no_word (omega (arith, within, count))))
-            (subst (λ (y : Decl). is_kept_word (symbol_count p.decls.items) y.body x.word ≡ true) alike c.kept))
+              let one : id ≡ x.id = same_place p.decls.items id x.id d c.of at cell c.at c_cell same in
+              let declaration : Some c.of ≡ Some d = sym c.at ∙ ap (slice_get p.decls.items) (sym one) ∙ at in
+              let alike : c.of ≡ d = cc in
+              let within = place_within p.decls.items x.id c.of c.at c_cell in
+              let count = are.count in
+              subst (λ i. is_kept_word (symbol_count p.decls.items) d.body (slice_index_or (slice_set words (cell_place p.decls.items x.id) x.word) i no_word) ≡ true) (sym same)
+              (subst (λ w. is_kept_word (symbol_count p.decls.items) d.body w ≡ true) (sym (get_or-set_same words (cell_place p.decls.items x.id) x.word no_word (omega (arith, within, count))))
+              (subst (λ (y : Decl). is_kept_word (symbol_count p.decls.items) y.body x.word ≡ true) alike c.kept))
           | inr other ↦
-            subst (λ w. is_kept_word (symbol_count p.decls.items) d.body w ≡ true) (sym (get_or-set_other words (cell_place p.decls.items x.id) (cell_place p.decls.items id) x.word no_word other)) (are.kinds id d at cell)
+              subst (λ w. is_kept_word (symbol_count p.decls.items) d.body w ≡ true) (sym (get_or-set_other words (cell_place p.decls.items x.id) (cell_place p.decls.items id) x.word no_word other)) (are.kinds id d at cell)
         ];
   }
 

@@ -1,6 +1,6 @@
 -- What an entry makes of words of their kinds: words and values of theirs.
-use Rattle.std.proofs.Common.{◌≡◌, ◌<◌, ◌≤◌, ◌==◌, ◌⊎◌, inl, inr, ℕ, zero, suc, Bool, true, false, ◌&&◌, cond, List, [], ◌∷◌, length, take, refl, sym, ap, subst, ◌∙◌, arith}
-use Rattle.std.specs.Prelude.{pos, Option, None, Some, if◌then◌else◌, option_map, option_and_then, unwrap_or, slice_get, slice_index_or, count_by}
+use Rattle.std.proofs.Common.{◌≡◌, ◌<◌, ◌≤◌, ◌==◌, inl, inr, ℕ, zero, suc, Bool, true, false, ◌&&◌, List, [], ◌∷◌, length, take, refl, sym, ap, subst, ◌∙◌, arith}
+use Rattle.std.specs.Prelude.{Option, None, Some, if◌then◌else◌, option_map, option_and_then, unwrap_or, slice_get, slice_index_or, count_by}
 use Rattle.std.specs.List.{list_all}
 use Rattle.std.specs.Option.{option_map_or}
 use Rattle.std.proofs.lemmas.Bool.{and_parts, cases_eq, eqb-true}
@@ -24,7 +24,7 @@ use Rattle.re_terms.specs.Kinds.{Sort, Device, Symbol, Value, Set, Event, Place,
 use Rattle.re_terms.specs.Meaning.{meaning}
 use Rattle.re_terms.specs.Programs.{IsProgram, has_literals, is_literal_word, is_ranged_expr, is_symbol}
 use Rattle.re_terms.specs.Trees.{is_region}
-use Rattle.re_terms.specs.Propagation.{Step, Effect, no_effect, put_word, change_of, filtered, either_of, body_effect, place_effect, effect}
+use Rattle.re_terms.specs.Propagation.{Step, Effect, no_effect, put_word, filtered, either_of, body_effect, place_effect, effect}
 use Rattle.re_terms.specs.Shapes.{is_word_of, replicated_kind}
 use Rattle.re_terms.specs.SignalWords.{no_word, names_environment, replicated_place, signal_word}
 use Rattle.re_terms.specs.WordOrder.{same_word}
@@ -207,8 +207,8 @@ module _ (p : Program) (program : IsProgram p) (s : Step) (step : IsStepOf p s) 
     map_value k arg source expr w (Some value) at range event agreed h =
         word_moved symbols k _ w h
         (means (at_event arg) (Some value) None expr k range agreed
-          (λ j w e f. stands_for symbols arg j value w (event_value source arg value event at) e f)
-          (λ j w e f. none e))
+        (λ j w e f. stands_for symbols arg j value w (event_value source arg value event at) e f)
+        (λ j w e f. none e))
 
     filter_value : (k : Kind) (source : ℕ) (expr : Expr) (w : Word) (o : Option Word) → (earlier source).occurrence ≡ o → HasLiterals n expr → event_kind (sorts_at n) source ≡ Some k → agrees_with kind.Bool (expr_kind (sorts_at n) (at_event k) expr) ≡ true
         → option_and_then (λ value. filtered (meaning expr (names_environment decls s.new_view (λ name. (earlier name).word) (Some value) None)) value) o ≡ Some w → is_word_or_fault symbols k w ≡ true
@@ -216,8 +216,8 @@ module _ (p : Program) (program : IsProgram p) (s : Step) (step : IsStepOf p s) 
     filter_value k source expr w (Some value) at range event agreed h =
         filtered_kept symbols k _ value w
         (means (at_event k) (Some value) None expr kind.Bool range agreed
-          (λ j w e f. stands_for symbols k j value w (event_value source k value event at) e f)
-          (λ j w e f. none e))
+        (λ j w e f. stands_for symbols k j value w (event_value source k value event at) e f)
+        (λ j w e f. none e))
         (event_value source k value event at) h
 
   abbrev GivesWord : ℕ → Body → Kind → Type 0
@@ -287,9 +287,9 @@ module _ (p : Program) (program : IsProgram p) (s : Step) (step : IsStepOf p s) 
     words = λ id k under v.
         elim (cases_eq id n) [
           | inl e ↦
-            subst (λ i. is_word_or_fault symbols k (effects (suc n) i).word ≡ true) (sym e)
-            (subst (λ x. is_word_or_fault symbols k x.word ≡ true) (sym (below-here no_effect (place_effect p s) n))
-            (word_here n (effects n) k (omega arith) kept (ap (value_kind (sorts_of decls)) (sym e) ∙ v)))
+              subst (λ i. is_word_or_fault symbols k (effects (suc n) i).word ≡ true) (sym e)
+              (subst (λ x. is_word_or_fault symbols k x.word ≡ true) (sym (below-here no_effect (place_effect p s) n))
+              (word_here n (effects n) k (omega arith) kept (ap (value_kind (sorts_of decls)) (sym e) ∙ v)))
           | inr other ↦ subst (λ x. is_word_or_fault symbols k x.word ≡ true) (sym (below-more no_effect (place_effect p s) n id other)) (kept.words id k (omega arith) v)
         ];
     values = λ id k w under v h.

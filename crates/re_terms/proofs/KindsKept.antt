@@ -1,13 +1,11 @@
 -- A program's words are of their kinds: in views, in signals, and after entries.
-use Rattle.std.proofs.Common.{◌≡◌, ◌<◌, ◌≤◌, ◌+◌, ◌⊎◌, inl, inr, ℕ, zero, suc, Bool, true, false, ◌&&◌, cond, List, [], ◌∷◌, length, take, refl, sym, ap, subst, ◌∙◌, arith}
-use Rattle.std.specs.Prelude.{pos, Option, None, Some, is_some, if◌then◌else◌, option_map, option_and_then, unwrap_or, slice_get, slice_index_or, count_by}
-use Rattle.std.specs.List.{list_all, cons_option}
+use Rattle.std.proofs.Common.{◌≡◌, ◌<◌, ◌≤◌, inl, inr, ℕ, zero, suc, true, ◌&&◌, cond, List, length, take, refl, sym, ap, subst, ◌∙◌, arith}
+use Rattle.std.specs.Prelude.{Option, None, Some, option_map, unwrap_or, slice_get, slice_index_or, count_by}
 use Rattle.std.specs.Option.{option_map_or}
 use Rattle.std.proofs.lemmas.Bool.{and_parts, cases_eq}
 use Rattle.std.proofs.lemmas.List.{length-take-le}
 use Rattle.std.proofs.lemmas.List.Sums.{sum_by-take-le}
 use Rattle.std.proofs.lemmas.Option.{slice_get_within}
-use Rattle.re_terms.specs.declared.entry.Put.{Put}
 use Rattle.re_terms.specs.declared.expr.Expr.{Expr}
 use Rattle.re_terms.specs.declared.program.Body.{Body}
 use Rattle.re_terms.specs.declared.program.Body.TheVariants as body
@@ -18,22 +16,20 @@ use Rattle.re_terms.specs.declared.replicated.RKind.TheVariants as replicated
 use Rattle.re_terms.specs.declared.word.Kind.{Kind}
 use Rattle.re_terms.specs.declared.word.Kind.TheVariants as kind
 use Rattle.re_terms.specs.declared.word.Word.{Word}
-use Rattle.re_terms.specs.declared.word.Word.TheVariants as word
 use Rattle.re_terms.specs.Admission.{symbol_count}
 use Rattle.re_terms.specs.Cells.{is_cell_body, cell_place}
 use Rattle.re_terms.specs.Dependencies.{below}
-use Rattle.re_terms.specs.Kinds.{Sort, Device, Symbol, Value, Set, Event, SomeKind, Place, in_signal, at_event, in_fold, only_if, is_of_kind, agrees_with, is_start, kind_eq, value_kind_of, set_kind_of, event_kind_of, value_kind, set_kind, event_kind, expr_kind, sort_of, sorts_of}
-use Rattle.re_terms.specs.Meaning.{meaning}
-use Rattle.re_terms.specs.Programs.{IsProgram, is_literal_word, is_ranged, is_ranged_expr, has_literals, is_symbol}
-use Rattle.re_terms.specs.Shapes.{is_word_of, replicated_kind, replicated_kinds}
+use Rattle.re_terms.specs.Kinds.{Sort, Device, Symbol, Value, Set, Event, SomeKind, Place, in_signal, at_event, in_fold, is_of_kind, agrees_with, is_start, kind_eq, value_kind_of, event_kind_of, value_kind, event_kind, expr_kind, sort_of, sorts_of}
+use Rattle.re_terms.specs.Programs.{IsProgram, is_ranged, is_ranged_expr, has_literals, is_symbol}
+use Rattle.re_terms.specs.Shapes.{replicated_kind}
 use Rattle.re_terms.specs.SignalWords.{no_word, names_environment, replicated_place, body_word, place_word, signal_word}
 use Rattle.re_terms.specs.Views.{View}
 use Rattle.re_terms.specs.WordKinds.{is_word_or_fault, IsEnvironmentOf, is_kept_word, AreWordsOf, is_shown_word, IsViewOf}
 use Rattle.re_terms.proofs.Below.{below-here, below-more}
-use Rattle.re_terms.proofs.Ordered.{Through, through, mapped, sorts_of-count, value_found, event_found, set_found, some_sort}
+use Rattle.re_terms.proofs.Ordered.{through, mapped, sorts_of-count, value_found, event_found, some_sort}
 use Rattle.re_terms.proofs.ReplicatedPlaces.{kind_at}
-use Rattle.re_terms.proofs.DeclaredSorts.{declared, sort_found, sort_kept, next_sort}
-use Rattle.re_terms.proofs.WordMeanings.{never, only, kind_is, meaning_kept, start_word_of, word_or_fault}
+use Rattle.re_terms.proofs.DeclaredSorts.{declared, sort_found, sort_kept}
+use Rattle.re_terms.proofs.WordMeanings.{never, only, meaning_kept, word_or_fault}
 
 -- ---- what has a word, and what has a value
 
@@ -206,11 +202,11 @@ module _ (p : Program) (program : IsProgram p) where
     kept_below (suc n) within id k under v =
         elim (cases_eq id n) [
           | inl e ↦
-            subst (λ i. is_word_or_fault symbols k (below no_word (place_word decls cells view) (suc n) i) ≡ true) (sym e)
-            (subst (λ w. is_word_or_fault symbols k w ≡ true) (sym (below-here no_word (place_word decls cells view) n))
-            (place_given n (below no_word (place_word decls cells view) n) k (omega arith) (ap (value_kind (sorts_of decls)) (sym e) ∙ v) (kept_below n (omega arith))))
+              subst (λ i. is_word_or_fault symbols k (below no_word (place_word decls cells view) (suc n) i) ≡ true) (sym e)
+              (subst (λ w. is_word_or_fault symbols k w ≡ true) (sym (below-here no_word (place_word decls cells view) n))
+              (place_given n (below no_word (place_word decls cells view) n) k (omega arith) (ap (value_kind (sorts_of decls)) (sym e) ∙ v) (kept_below n (omega arith))))
           | inr other ↦
-            subst (λ w. is_word_or_fault symbols k w ≡ true) (sym (below-more no_word (place_word decls cells view) n id other)) (kept_below n (omega arith) id k (omega arith) v)
+              subst (λ w. is_word_or_fault symbols k w ≡ true) (sym (below-more no_word (place_word decls cells view) n id other)) (kept_below n (omega arith) id k (omega arith) v)
         ]
 
     -- the words of vars, folds, signals, counters and registers

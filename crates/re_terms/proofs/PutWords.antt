@@ -1,5 +1,5 @@
 -- The words before an entry with its changes put in them are the words after it.
-use Rattle.std.proofs.Common.{◌≡◌, ◌<◌, ◌≤◌, ◌+◌, ◌⊎◌, inl, inr, ℕ, zero, suc, Bool, true, false, ◌&&◌, cond, List, [], ◌∷◌, length, map, take, get_or, refl, sym, ap, subst, ◌∙◌, arith}
+use Rattle.std.proofs.Common.{◌≡◌, ◌<◌, ◌+◌, ◌⊎◌, inl, inr, ℕ, zero, suc, Bool, true, false, ◌&&◌, cond, List, [], ◌∷◌, length, map, take, refl, sym, ap, subst, ◌∙◌, arith}
 use Rattle.std.specs.Prelude.{Option, None, Some, not, filter, count_by, slice_get, slice_index_or, slice_set}
 use Rattle.std.specs.List.{range_with_len}
 use Rattle.std.specs.Option.{option_map_or}
@@ -166,6 +166,6 @@ module _ (p : Program) (s : Step) (long : length s.words ≡ count_by is_cell p.
   pub words_put : with_changes p.decls.items s.words (changes p s) ≡ words_after p s
   words_put = ext_get_or no_word (with_changes p.decls.items s.words (changes p s)) (words_after p s) (length-with_changes p.decls.items s.words (changes p s) ∙ long ∙ sym after_long)
       (λ k within.
-        let r = placed p.decls.items k (omega (arith, within, length-with_changes p.decls.items s.words (changes p s), long)) in
-        subst (λ i. slice_index_or (with_changes p.decls.items s.words (changes p s)) i no_word ≡ slice_index_or (words_after p s) i no_word) r.place
-        (put_by r.id r.declaration r.at r.cell (test r.id) refl ∙ sym (after_at r.id r.declaration r.at r.cell)))
+      let r = placed p.decls.items k (omega (arith, within, length-with_changes p.decls.items s.words (changes p s), long)) in
+      subst (λ i. slice_index_or (with_changes p.decls.items s.words (changes p s)) i no_word ≡ slice_index_or (words_after p s) i no_word) r.place
+      (put_by r.id r.declaration r.at r.cell (test r.id) refl ∙ sym (after_at r.id r.declaration r.at r.cell)))

@@ -1,13 +1,12 @@
 -- How long the spelling of a replicated state is at most.
-use Rattle.std.proofs.Common.{◌≡◌, ◌<◌, ◌≤◌, ◌+◌, ◌*◌, ◌⊎◌, inl, inr, ℕ, zero, suc, Bool, true, false, List, [], ◌∷◌, ◌++◌, length, refl, sym, ap, subst, ◌∙◌, arith, length-append}
-use Rattle.std.specs.Prelude.{Option, None, Some, slice_get, slice_index}
+use Rattle.std.proofs.Common.{◌≡◌, ◌≤◌, ◌+◌, ◌*◌, ◌⊎◌, inl, inr, ℕ, zero, suc, List, [], ◌∷◌, ◌++◌, length, refl, arith, length-append}
+use Rattle.std.specs.Prelude.{slice_index}
 use Rattle.std.specs.Int.{w16, w32, w64, to_be_bytes, cast_unsigned}
 use Rattle.std.specs.List.{flat_map, range_with_len, sum_by}
-use Rattle.std.proofs.lemmas.Bool.{cases_eq}
 use Rattle.std.proofs.lemmas.List.Concat.{length-flat_map}
 use Rattle.std.proofs.lemmas.List.FromFn.{length-range_with_len}
-use Rattle.std.proofs.lemmas.List.Sums.{sum_by-cons, sum_by-append}
-use Rattle.re_terms.specs.Lengths.{packet_length_limit, state_length_limit}
+use Rattle.std.proofs.lemmas.List.Sums.{sum_by-cons}
+use Rattle.re_terms.specs.declared.limits.TheConstants.{PACKET_BYTES, STATE_BYTES}
 use Rattle.re_terms.specs.Shapes.{FitsShape, IsShape, pair_count}
 use Rattle.re_terms.specs.Spellings.{word_bytes, vector_bytes, rows_bytes, pair_bytes, pairs_bytes, writer_bytes, register_bytes, cell_bytes, state_bytes, packet_bytes}
 use Rattle.re_terms.specs.declared.word.Word.{Word}
@@ -103,7 +102,7 @@ cells_long devices (c ∷ cells) few =
       ]
     ]
 
-pub state_long : (shape : Shape) (r : RState) → IsShape shape → FitsShape shape r → length (state_bytes shape.devices r) ≤ state_length_limit
+pub state_long : (shape : Shape) (r : RState) → IsShape shape → FitsShape shape r → length (state_bytes shape.devices r) ≤ STATE_BYTES
 unfolding state_bytes
 state_long shape r is fits =
     let few = is.devices in
@@ -117,6 +116,6 @@ state_long shape r is fits =
       | inr one ↦ omega arith
     ]
 
-pub packet_long : (shape : Shape) (r : RState) → IsShape shape → FitsShape shape r → length (packet_bytes shape.devices r) ≤ packet_length_limit
+pub packet_long : (shape : Shape) (r : RState) → IsShape shape → FitsShape shape r → length (packet_bytes shape.devices r) ≤ PACKET_BYTES
 unfolding packet_bytes
 packet_long shape r is fits = let h = state_long shape r is fits in omega arith

@@ -1,8 +1,7 @@
 -- What a state of a program begins with and shows is of its kinds.
-use Rattle.std.proofs.Common.{◌≡◌, ◌<◌, ◌≤◌, ◌+◌, ◌⊎◌, inl, inr, ℕ, zero, suc, Bool, true, false, ◌&&◌, cond, List, [], ◌∷◌, length, map, take, refl, sym, ap, subst, ◌∙◌, arith}
-use Rattle.std.specs.Prelude.{pos, ◌-ℤ◌, Option, None, Some, is_some, slice_get, slice_index_or, count_by, nat_le}
+use Rattle.std.proofs.Common.{◌≡◌, ◌<◌, ◌≤◌, ◌+◌, ℕ, zero, suc, true, ◌&&◌, cond, List, [], ◌∷◌, length, map, take, refl, sym, ap, subst, ◌∙◌, arith}
+use Rattle.std.specs.Prelude.{pos, ◌-ℤ◌, Option, None, Some, slice_get, slice_index_or, count_by}
 use Rattle.std.specs.List.{cons_option, sum, sum_by}
-use Rattle.std.proofs.lemmas.Bool.{cases_eq}
 use Rattle.std.proofs.lemmas.List.{length-map}
 use Rattle.std.proofs.lemmas.List.Sums.{sum_by-cons, sum_by-take-le}
 use Rattle.std.proofs.lemmas.Option.{slice_get_within}
@@ -20,17 +19,16 @@ use Rattle.re_terms.specs.declared.word.Word.{Word}
 use Rattle.re_terms.specs.Admission.{symbol_count}
 use Rattle.re_terms.specs.Arithmetic.{is_word_number}
 use Rattle.re_terms.specs.Cells.{is_cell, is_cell_body, cell_place}
-use Rattle.re_terms.specs.Kinds.{Sort, Value, Place, is_start, only_if, sort_of, sorts_of, expr_kind, in_fold, event_kind, agrees_with}
+use Rattle.re_terms.specs.Kinds.{Sort, Value, is_start, sort_of, sorts_of, expr_kind, in_fold, event_kind, agrees_with}
 use Rattle.re_terms.specs.Programs.{IsProgram, is_literal_word, is_ranged, is_ranged_expr, is_symbol}
 use Rattle.re_terms.specs.Trees.{is_region}
 use Rattle.re_terms.specs.Shapes.{FitsKind, FitsShape, is_word_of, pair_count, replicated_kind, replicated_kinds, shape_of, start_word, start_words}
 use Rattle.re_terms.specs.SignalWords.{no_word}
 use Rattle.re_terms.specs.Views.{cell_size, cell_word, view_of}
-use Rattle.re_terms.specs.WordOrder.{elements_of}
 use Rattle.re_terms.specs.WordKinds.{AreWordsOf, IsViewOf, is_kept_word, is_shown_word}
 use Rattle.re_terms.proofs.DeclaredSorts.{declared}
 use Rattle.re_terms.proofs.Ordered.{through, some_sort}
-use Rattle.re_terms.proofs.ReplicatedPlaces.{KindFrom, kind_from}
+use Rattle.re_terms.proofs.ReplicatedPlaces.{kind_from}
 use Rattle.re_terms.proofs.WordMeanings.{never, only, start_word_of, whole_word, word_or_fault}
 use Rattle.re_terms.proofs.WordOrders.{length-words}
 use Rattle.std.proofs.lemmas.Bool.{and_parts}

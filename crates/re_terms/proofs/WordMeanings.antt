@@ -1,5 +1,5 @@
 -- An expression's word is of the expression's kind or a fault.
-use Rattle.std.proofs.Common.{◌≡◌, ◌<◌, ◌≤◌, ℕ, Bool, true, false, ◌&&◌, ◌||◌, refl, sym, ap, subst, ◌∙◌, arith}
+use Rattle.std.proofs.Common.{◌≡◌, ◌≤◌, ℕ, Bool, true, false, ◌&&◌, ◌||◌, refl, sym, ap, subst, ◌∙◌, arith}
 use Rattle.std.specs.Prelude.{ℤ, pos, ◌+ℤ◌, ◌-ℤ◌, ◌*ℤ◌, int_div, ◌==◌, Option, None, Some, List, if◌then◌else◌, unwrap_or, option_map, nat_lt}
 use Rattle.std.specs.Ordering.{int_eq}
 use Rattle.std.proofs.lemmas.Bool.{and_parts, ltb-true}
@@ -13,13 +13,13 @@ use Rattle.re_terms.specs.declared.word.Kind.TheVariants as kind
 use Rattle.re_terms.specs.declared.word.Word.{Word}
 use Rattle.re_terms.specs.declared.word.Word.TheVariants as word
 use Rattle.re_terms.specs.Arithmetic.{is_word_number, whole, number_word, strict_word, and_word, or_word, operator_word, not_word, if_word, recover_word}
-use Rattle.re_terms.specs.Kinds.{Sort, SomeKind, Place, kind_eq, word_kind, common_kind, taking, operator_kind, operand_kind, only_if, is_of_kind, is_start, agrees_with, kind_step, expr_kind, value_kind, set_kind}
+use Rattle.re_terms.specs.Kinds.{Sort, SomeKind, Place, kind_eq, word_kind, common_kind, taking, operator_kind, only_if, is_start, agrees_with, kind_step, expr_kind, value_kind, set_kind}
 use Rattle.re_terms.specs.Meaning.{Environment, has_word, meaning, meaning_step}
 use Rattle.re_terms.specs.Programs.{has_literals, literals_step, is_literal_word}
 use Rattle.re_terms.specs.Shapes.{is_word_of}
 use Rattle.re_terms.specs.Trees.{is_fault_code}
 use Rattle.re_terms.specs.WordKinds.{is_code, is_word_or_fault, IsEnvironmentOf}
-use Rattle.re_terms.proofs.Ordered.{Through, through, mapped}
+use Rattle.re_terms.proofs.Ordered.{through}
 
 pub never : {A : Type 0} → false ≡ true → A
 never h = absurd (no h)

@@ -6,7 +6,6 @@ pub mod Dependencies
 pub mod JointLogs
 pub mod Kinds
 pub mod Layouts
-pub mod Lengths
 pub mod Limits
 pub mod Listed
 pub mod Meaning

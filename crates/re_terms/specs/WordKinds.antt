@@ -1,7 +1,7 @@
 -- Words of their kinds, in the states, views and entries of a program.
 -- Read against: with `symbol red; var x: int = 2; event e: int; fold n: int = 0 on e do self + 10 / arg; register r: sym = red;` 5 is a word of x, and `true`, fault 2 and 2^63 are none;
 -- fault 2 and fault 100 are words of n, and fault 7 is none; the symbol 0 is a word of r, and the symbol 1 is none. A change of e, and one of x to fault 2, are no changes.
-use Rattle.std.specs.Prelude.{ℕ, pos, ◌≡◌, ◌==◌, ◌||◌, Bool, true, false, List, length, Option, Some, slice_get, slice_index_or, count_by}
+use Rattle.std.specs.Prelude.{ℕ, pos, ◌≡◌, ◌==◌, ◌||◌, Bool, true, false, List, length, Some, slice_get, slice_index_or, count_by}
 use Rattle.std.specs.List.{list_all}
 use Rattle.std.specs.Option.{option_map_or}
 use Rattle.re_terms.specs.Admission.{AreAscending, is_put_of, source_kind, symbol_count, var_kind}

@@ -8,8 +8,12 @@ ghost use Rattle.re_terms.specs.Listed.{plain};
 ghost use Rattle.re_terms.specs.Meaning.{Environment, meaning};
 ghost use Rattle.re_terms.specs.Programs.{IsProgram, has_literals};
 ghost use Rattle.re_terms.specs.Propagation.{Step, changes, effect, step_in, words_after};
+ghost use Rattle.re_terms.specs.ShapedUpdates.{IsWithinLimits, is_update_of};
 ghost use Rattle.re_terms.specs.Shapes.{FitsShape, shape_of, start_state, start_words};
 ghost use Rattle.re_terms.specs.SignalWords.{signal_word};
+ghost use Rattle.re_terms.specs.Updates.{IsCausalLog, IsIn, Update};
+ghost use Rattle.re_terms.specs.UpdateStates.{state_of_updates};
+ghost use Rattle.re_terms.specs.Values.{view_of_updates};
 ghost use Rattle.re_terms.specs.Views.{View, view_of};
 ghost use Rattle.re_terms.specs.WordKinds.{AreChangesOf, AreWordsOf, IsEnvironmentOf, IsStateOf, IsStepOf, IsViewOf, is_word_or_fault};
 ghost use Rattle.re_terms.specs.declared.entry.Entry.{Entry};
@@ -27,11 +31,12 @@ pub fn meaning_kind_law()
     ensures { (symbols : ℕ) (sorts : List Sort) (place : Place) (env : Environment) (e : Expr) (k : Kind) → agrees_with k (expr_kind sorts place e) ≡ true → has_literals symbols e ≡ true → IsEnvironmentOf symbols sorts place env → is_word_or_fault symbols k (meaning e env) ≡ true }
 {}
 
-/// A program's start words are of their kinds, and so is what a replicated state of its shape shows. Over words and a view
-/// of their kinds the word of each var, signal, fold, counter and register is of its kind or a fault.
+/// A program's start words are of their kinds, and so is what a replicated state of its shape shows, and what updates of its
+/// shape show whose state is within the limits. Over words and a view of their kinds the word of each var, signal, fold, counter and register is of its kind or a fault.
 pub fn name_kind_law()
     ensures start { (p : Program) → IsProgram p → AreWordsOf p (start_words p.decls.items) }
     ensures view { (p : Program) (r : RState) → IsProgram p → FitsShape (shape_of p) r → IsViewOf p (view_of r) }
+    ensures updates { (p : Program) (log us : List Update) → IsProgram p → IsCausalLog log → ((u : Update) → IsIn u us → IsIn u log) → ((u : Update) → IsIn u us → is_update_of (shape_of p) u ≡ true) → IsWithinLimits (state_of_updates (shape_of p) us) → IsViewOf p (view_of_updates (shape_of p) us) }
     ensures names { (p : Program) (words : List Word) (view : View) (id : ℕ) (k : Kind) → IsProgram p → AreWordsOf p words → IsViewOf p view → value_kind (sorts_of p.decls.items) id ≡ Some k → is_word_or_fault (symbol_count p.decls.items) k (signal_word p words view id) ≡ true }
 {}
 

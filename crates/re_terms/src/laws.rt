@@ -13,6 +13,7 @@ ghost use Rattle.re_terms.specs.UpdateStates.{after_operation, content_of, join_
 ghost use Rattle.re_terms.specs.Values.{value_at, value_elements, view_of_updates};
 ghost use Rattle.re_terms.specs.Vectors.{join_vectors, with_dot};
 ghost use Rattle.re_terms.specs.Views.{cell_elements, view_of};
+ghost use Rattle.re_terms.specs.declared.limits.TheConstants.{PAIRS};
 ghost use Rattle.re_terms.specs.declared.replicated.RCell.{RCell};
 ghost use Rattle.re_terms.specs.declared.replicated.RKind.{RKind};
 ghost use Rattle.re_terms.specs.declared.replicated.RepOp.{RepOp};
@@ -115,7 +116,7 @@ pub fn fits_law()
 /// A state that fits a shape fits it after a merge with another such state, where the sets together have at most 1,024
 /// pairs, and after an operation that its cell takes and no limit stands against.
 pub fn fitting_law()
-    ensures joined { (shape : Shape) (a b : RState) → FitsShape shape a → FitsShape shape b → sum_by pair_count (join_states a b).cells.items ≤ 1024 → FitsShape shape (join_states a b) }
+    ensures joined { (shape : Shape) (a b : RState) → FitsShape shape a → FitsShape shape b → sum_by pair_count (join_states a b).cells.items ≤ PAIRS → FitsShape shape (join_states a b) }
     ensures operated { (shape : Shape) (device : ℕ) (op : RepOp) (r : RState) → shape.devices ≤ 16 → device < shape.devices → is_operation_in shape op ≡ true → operation_fault shape device op r ≡ None → FitsShape shape r → FitsShape shape (after_operation shape device op r) }
 {}
 

@@ -9,6 +9,7 @@ pub mod kind_laws;
 pub mod kinds;
 pub mod laws;
 pub mod length_laws;
+pub mod limits;
 pub mod order;
 pub mod program;
 pub mod raw;
