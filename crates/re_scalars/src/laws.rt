@@ -1,6 +1,7 @@
 //! The laws of counters and registers.
 ghost use Rattle.std.specs.Prelude.{refl};
-ghost use Rattle.re_terms.proofs.Joins.{counter_law, register_law};
+ghost use Rattle.re_terms.proofs.Joins.{counter_law};
+ghost use Rattle.re_terms.proofs.Registers.{written_join};
 ghost use Rattle.re_terms.specs.CellStates.{join_rows, join_written, rows_of, written_of};
 ghost use Rattle.re_terms.specs.declared.replicated.RCell.TheVariants as content;
 ghost use Rattle.re_terms.specs.declared.replicated.RKind.TheVariants as kind;
@@ -46,5 +47,5 @@ impl Replicated for RegisterLaw {
 
     ghost merged_is = { λ v w a b. refl };
 
-    ghost join_law = { register_law };
+    ghost join_law = { λ start cell log v w causal closed_v closed_w. written_join log v w start cell causal };
 }
