@@ -31,8 +31,9 @@ pub fn meaning_kind_law()
     ensures { (symbols : ℕ) (sorts : List Sort) (place : Place) (env : Environment) (e : Expr) (k : Kind) → agrees_with k (expr_kind sorts place e) ≡ true → has_literals symbols e ≡ true → IsEnvironmentOf symbols sorts place env → is_word_or_fault symbols k (meaning e env) ≡ true }
 {}
 
-/// A program's start words are of their kinds, and so is what a replicated state of its shape shows, and what updates of its
-/// shape show whose state is within the limits. Over words and a view of their kinds the word of each var, signal, fold, counter and register is of its kind or a fault.
+/// A program's start words are of their kinds. So is what a replicated state of its shape shows, and what updates show that
+/// are in one causal log, of the shape, and make a state within the limits. Over words and a view of their kinds the word of
+/// each var, signal, fold, counter and register is of its kind or a fault.
 pub fn name_kind_law()
     ensures start { (p : Program) → IsProgram p → AreWordsOf p (start_words p.decls.items) }
     ensures view { (p : Program) (r : RState) → IsProgram p → FitsShape (shape_of p) r → IsViewOf p (view_of r) }
