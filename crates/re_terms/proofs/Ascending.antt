@@ -1,5 +1,5 @@
 -- A list in strict order is known by its members.
-use Rattle.std.proofs.Common.{◌≡◌, Bool, true, false, List, [], ◌∷◌, refl, sym, ap, ◌∙◌, subst, Option, None, Some}
+use Rattle.std.proofs.Common.{◌≡◌, ◌≤◌, ◌+◌, ℕ, cond, length, arith, Bool, true, false, List, [], ◌∷◌, refl, sym, ap, ◌∙◌, subst, Option, None, Some}
 use Rattle.std.specs.Prelude.{T, ◌&&◌, map, is_some}
 use Rattle.std.specs.declared.cmp.Ordering.{Ordering}
 use Rattle.std.specs.declared.cmp.Ordering.TheVariants.{Less, Equal, Greater}
@@ -7,8 +7,9 @@ use Rattle.std.specs.Ordering.{eq_by_cmp, is_lt}
 use Rattle.std.specs.Cmp.{IsTotalOrder}
 use Rattle.std.specs.List.{list_any, AllByRecursion}
 use Rattle.std.specs.List.Sorted.{IsStrictlySortedBy}
-use Rattle.std.specs.FinMap.{IsAntisymmetric, keys, entries, entries_sorted, from_entries, get, get-entries, get-from_entries, contains_key-keys, same_map}
-use Rattle.std.specs.FinMap.Entries.{below_all, is_sorted, is_some-find, same_entries}
+use Rattle.std.proofs.lemmas.List.{length-map}
+use Rattle.std.specs.FinMap.{IsAntisymmetric, empty, entries-insert, len-empty, len-entries, keys, entries, entries_sorted, from_entries, get, get-entries, get-from_entries, contains_key-keys, same_map}
+use Rattle.std.specs.FinMap.Entries.{find, length-put, below_all, is_sorted, is_some-find, same_entries}
 use Rattle.re_terms.specs.WordOrder.{ascending_by}
 
 module _ {K : Type 0} where
@@ -85,3 +86,19 @@ module _ {K : Type 0} (R : K → K → Ordering) (o : IsTotalOrder R) where
   ascending_by_is same ks h =
       let m = from_entries {R = R} (marked ks) in
       ap (map (λ e. e.0)) (same_entries R o same (entries m) (marked ks) (entries_sorted m) (sorted_marked R ks h) (λ q. sym (get-entries m q) ∙ get-from_entries o (marked ks) q)) ∙ keys_marked ks
+
+  one_at_most : (b : Bool) (n : ℕ) → cond b n (n + 1) ≤ n + 1
+  one_at_most true n = omega arith
+  one_at_most false n = omega arith
+
+  entered : (ks : List K) → length (entries (from_entries {R = R} (marked ks))) ≤ length ks
+  entered [] = omega (arith, len-entries (empty {X = Unit {0}} {R = R}), len-empty R (Unit {0}))
+  entered (k ∷ ks) =
+      let m = from_entries {R = R} (marked ks) in
+      let e : length (entries (from_entries {R = R} (marked (k ∷ ks)))) ≡ cond (is_some (find R k (entries m))) (length (entries m)) (length (entries m) + 1) = ap length (entries-insert o m k (tt {0})) ∙ length-put R o k (tt {0}) (entries m) (entries_sorted m) in
+      omega (arith, e, one_at_most (is_some (find R k (entries m))) (length (entries m)), entered ks)
+
+  -- at most as many as before
+  pub length-ascending_by : (ks : List K) → length (ascending_by R ks) ≤ length ks
+  unfolding ascending_by
+  length-ascending_by ks = omega (arith, length-map (entries (from_entries {R = R} (marked ks))) (λ e. e.0), entered ks)

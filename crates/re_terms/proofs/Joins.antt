@@ -1,9 +1,8 @@
 -- The law of joins over all cells.
 use Rattle.std.proofs.Common.{◌≡◌, ℕ, ◌+◌, List, [], ◌∷◌, refl, ap, ◌∙◌, arith}
 use Rattle.std.specs.Prelude.{max}
-use Rattle.re_terms.specs.declared.word.Word.{Word}
 use Rattle.re_terms.specs.Replication.{JoinLaw}
-use Rattle.re_terms.specs.CellStates.{Pairing, rows_of, join_rows, pairs_of, join_pairs, written_of, join_written, Pairing.AddWins}
+use Rattle.re_terms.specs.CellStates.{Pairing, rows_of, join_rows, pairs_of, join_pairs, Pairing.AddWins}
 use Rattle.re_terms.specs.UpdateStates.{content_of, contents_from, state_of_updates, join_cell, join_cells, join_states}
 use Rattle.re_terms.specs.Updates.{Update, covered, IsCausallyClosed, IsCausalLog, vector_of, greatest_number}
 use Rattle.re_terms.specs.Vectors.{by_device, greater_each, join_vectors}
@@ -45,6 +44,3 @@ counter_law cell b v w causal cv cw = rows_join cell b v w
 
 pub pairs_law : (m : Pairing) (cell : ℕ) → JoinLaw join_pairs (pairs_of m cell)
 pairs_law m cell b v w causal cv cw = set_join b v w m cell causal cv cw
-
-pub register_law : (start : Word) (cell : ℕ) → JoinLaw (λ av bv a b. join_written a b) (written_of start cell)
-register_law start cell b v w causal cv cw = written_join b v w start cell causal

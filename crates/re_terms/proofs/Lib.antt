@@ -32,3 +32,16 @@ pub mod WorldRows
 pub mod WorldSteps
 pub mod Dots
 pub mod TakenIns
+pub mod WordMeanings
+pub mod Below
+pub mod DeclaredSorts
+pub mod KindsKept
+pub mod ReplicatedPlaces
+pub mod EntriesKept
+pub mod RangedPlaces
+pub mod ChangesKept
+pub mod ViewsKept
+pub mod StateLengths
+pub mod StartStates
+pub mod StatesKept
+pub mod PutWords

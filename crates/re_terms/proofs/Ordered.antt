@@ -36,32 +36,32 @@ pub sorts_of-count : (decls : List Decl) → length (sorts_of decls) ≡ length 
 sorts_of-count decls = fold-length [] decls ∙ zero-add (length decls)
 
 -- what is behind a step that came through
-record Through {A B : Type 0} (o : Option A) (f : A → Option B) (y : B) : Type 0 where
+pub record Through {A B : Type 0} (o : Option A) (f : A → Option B) (y : B) : Type 0 where
   pub value : A
   pub is : o ≡ Some value
   pub then_is : f value ≡ Some y
 
-through : {A B : Type 0} (o : Option A) (f : A → Option B) (y : B) → option_and_then f o ≡ Some y → Through o f y
+pub through : {A B : Type 0} (o : Option A) (f : A → Option B) (y : B) → option_and_then f o ≡ Some y → Through o f y
 through None f y h = absurd (cc)
 through (Some a) f y h = record { value = a; is = refl; then_is = h }
 
-mapped : {A B : Type 0} (f : A → B) (o : Option A) (y : B) → option_map f o ≡ Some y → (x : A) × (o ≡ Some x)
+pub mapped : {A B : Type 0} (f : A → B) (o : Option A) (y : B) → option_map f o ≡ Some y → (x : A) × (o ≡ Some x)
 mapped f None y h = absurd (cc)
 mapped f (Some x) y h = (x, refl)
 
-chosen : {A : Type 0} (b : Bool) (x y : A) → only_if b x ≡ Some y → b ≡ true
+pub chosen : {A : Type 0} (b : Bool) (x y : A) → only_if b x ≡ Some y → b ≡ true
 chosen true x y h = refl
 chosen false x y h = absurd (cc)
 
-value_found : (o : Option Sort) (k : Kind) → value_kind_of o ≡ Some k → (s : Sort) × (o ≡ Some s)
+pub value_found : (o : Option Sort) (k : Kind) → value_kind_of o ≡ Some k → (s : Sort) × (o ≡ Some s)
 value_found None k h = absurd (cc)
 value_found (Some s) k h = (s, refl)
 
-set_found : (o : Option Sort) (k : Kind) → set_kind_of o ≡ Some k → (s : Sort) × (o ≡ Some s)
+pub set_found : (o : Option Sort) (k : Kind) → set_kind_of o ≡ Some k → (s : Sort) × (o ≡ Some s)
 set_found None k h = absurd (cc)
 set_found (Some s) k h = (s, refl)
 
-event_found : (o : Option Sort) (k : Kind) → event_kind_of o ≡ Some k → (s : Sort) × (o ≡ Some s)
+pub event_found : (o : Option Sort) (k : Kind) → event_kind_of o ≡ Some k → (s : Sort) × (o ≡ Some s)
 event_found None k h = absurd (cc)
 event_found (Some s) k h = (s, refl)
 
@@ -179,7 +179,7 @@ body_below sorts body.Counter s h = below_nil (length sorts)
 body_below sorts (body.Set k) s h = below_nil (length sorts)
 body_below sorts (body.Register k start) s h = below_nil (length sorts)
 
-some_sort : (o : Option Sort) → is_some o ≡ true → (s : Sort) × (o ≡ Some s)
+pub some_sort : (o : Option Sort) → is_some o ≡ true → (s : Sort) × (o ≡ Some s)
 some_sort None h = absurd (cc)
 some_sort (Some s) h = (s, refl)
 

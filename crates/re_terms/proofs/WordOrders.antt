@@ -1,5 +1,5 @@
 -- The orders of words and pairs are total, and only equal ones tie. A list in that order is known by its members.
-use Rattle.std.proofs.Common.{◌≡◌, ℕ, ℤ, pos, Bool, true, false, List, refl, sym, ap, ◌∙◌, subst}
+use Rattle.std.proofs.Common.{◌≡◌, ◌≤◌, length, ℕ, ℤ, pos, Bool, true, false, List, refl, sym, ap, ◌∙◌, subst}
 use Rattle.std.specs.declared.cmp.Ordering.{Ordering}
 use Rattle.std.specs.declared.cmp.Ordering.TheVariants.{Less, Equal, Greater}
 use Rattle.std.specs.Ordering.{nat_cmp, int_cmp, bool_cmp, then_cmp, ordering_then, on, eq_by_cmp, is_eq}
@@ -8,7 +8,7 @@ use Rattle.std.specs.List.{list_any}
 use Rattle.std.proofs.lemmas.Cmp.{nat_cmp_total, int_cmp_total, then_total, on_total, tied_itself}
 use Rattle.std.specs.FinMap.{IsAntisymmetric, nat_cmp-IsAntisymmetric, int_cmp-IsAntisymmetric}
 use Rattle.std.specs.List.Sorted.{IsStrictlySortedBy}
-use Rattle.re_terms.proofs.Ascending.{ascending_by_same, any-ascending_by, ascending_by_is, ascending_by_sorted}
+use Rattle.re_terms.proofs.Ascending.{length-ascending_by, ascending_by_same, any-ascending_by, ascending_by_is, ascending_by_sorted}
 use Rattle.re_terms.specs.declared.word.Word.{Word}
 use Rattle.re_terms.specs.declared.word.Word.TheVariants.{Int, Bool as Flag, Sym, Fault}
 use Rattle.re_terms.specs.declared.replicated.Pair.{Pair}
@@ -165,3 +165,7 @@ ascending_from ps qs s h = sym (ascending_is ps s) ∙ ascending_same ps qs h
 
 pub ascending_words_is : (ws : List Word) → IsStrictlySortedBy word_cmp ws → ascending_words ws ≡ ws
 ascending_words_is = ascending_by_is word_cmp word_cmp_total word_cmp_same
+
+-- at most as many as before
+pub length-words : (ws : List Word) → length (ascending_words ws) ≤ length ws
+length-words = length-ascending_by word_cmp word_cmp_total

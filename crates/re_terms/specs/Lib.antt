@@ -1,6 +1,7 @@
 pub mod Admission
 pub mod Arithmetic
 pub mod CellStates
+pub mod Changes
 pub mod Dependencies
 pub mod DeviceWorlds
 pub mod Entries
@@ -32,5 +33,6 @@ pub mod Updates
 pub mod Values
 pub mod Vectors
 pub mod Views
+pub mod WordKinds
 pub mod WordOrder
 pub mod Worlds

@@ -8,6 +8,7 @@ use Rattle.re_terms.specs.CellStates.{Pairing.AddWins, part_of, increment, decre
 use Rattle.re_terms.specs.Shapes.{pair_count}
 use Rattle.re_terms.specs.Updates.{Update, next_update, vector_of}
 use Rattle.re_terms.specs.UpdateStates.{after_operation}
+use Rattle.re_terms.specs.declared.limits.TheConstants.{PAIRS}
 use Rattle.re_terms.specs.declared.replicated.Act.{Act}
 use Rattle.re_terms.specs.declared.replicated.Act.TheVariants.{Add, Insert, Remove, Write}
 use Rattle.re_terms.specs.declared.replicated.RCell.{RCell}
@@ -53,7 +54,7 @@ live_counts place (k ∷ ks) us = live_count k place us + live_counts (place + 1
 abbrev pub update_fault : Shape → List Update → Update → Option OperationFault
 update_fault shape us u =
     cond (nat_le (2 ^ 48) u.dot.number || nat_le (2 ^ 52) u.stamp) (Some DotsSpent)
-    (cond (nat_lt 1024 (live_counts 0 shape.cells.items (us ++ u ∷ []))) (Some SetFull)
+    (cond (nat_lt PAIRS (live_counts 0 shape.cells.items (us ++ u ∷ []))) (Some SetFull)
     (cond (nat_le (2 ^ 63) (total_of_updates u.act u.cell u.dot.device (us ++ u ∷ []))) (Some CounterFull) None))
 
 -- ---- in a state
@@ -82,7 +83,7 @@ at_cell f (Some c) = f c
 abbrev pub operation_fault : Shape → ℕ → RepOp → RState → Option OperationFault
 operation_fault shape device op r =
     cond (nat_le (2 ^ 48) (slice_index r.vector.counts device + 1) || nat_le (2 ^ 52) (at_cell (stamp_after op.act) (slice_get r.cells.items op.cell))) (Some DotsSpent)
-    (cond (nat_lt 1024 (sum_by pair_count (after_operation shape device op r).cells.items)) (Some SetFull)
+    (cond (nat_lt PAIRS (sum_by pair_count (after_operation shape device op r).cells.items)) (Some SetFull)
     (cond (nat_le (2 ^ 63) (at_cell (total_after op.act device) (slice_get r.cells.items op.cell))) (Some CounterFull) None))
 
 -- ---- several operations, in order

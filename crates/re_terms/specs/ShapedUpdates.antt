@@ -7,6 +7,7 @@ use Rattle.std.specs.Option.{option_map_or}
 use Rattle.re_terms.specs.Admission.{is_act_of, takes_operation}
 use Rattle.re_terms.specs.Shapes.{pair_count}
 use Rattle.re_terms.specs.Updates.{Update}
+use Rattle.re_terms.specs.declared.limits.TheConstants.{PAIRS}
 use Rattle.re_terms.specs.declared.replicated.RCell.{RCell}
 use Rattle.re_terms.specs.declared.replicated.RCell.TheVariants as cell
 use Rattle.re_terms.specs.declared.replicated.RepOp.{RepOp}
@@ -40,4 +41,4 @@ pub record IsWithinLimits (r : RState) : Type 0 where
   pub counts : All (λ n. n < 2 ^ 48) r.vector.counts
   pub cells : (place : ℕ) (c : RCell) → slice_get r.cells.items place ≡ Some c → IsWithin c
   -- all sets together have at most 1,024 pairs
-  pub pairs : sum_by pair_count r.cells.items ≤ 1024
+  pub pairs : sum_by pair_count r.cells.items ≤ PAIRS

@@ -8,6 +8,7 @@ use Rattle.re_terms.specs.Arithmetic.{is_word_number}
 use Rattle.re_terms.specs.Listed.{plain}
 use Rattle.re_terms.specs.Programs.{is_device, is_symbol}
 use Rattle.re_terms.specs.WordOrder.{pair_cmp}
+use Rattle.re_terms.specs.declared.limits.TheConstants.{PAIRS}
 use Rattle.re_terms.specs.declared.word.Word.{Word}
 use Rattle.re_terms.specs.declared.word.Word.TheVariants as word
 use Rattle.re_terms.specs.declared.word.Kind.{Kind}
@@ -116,4 +117,4 @@ pub record FitsShape (shape : Shape) (r : RState) : Type 0 where
   pub count : length r.cells.items ≡ length shape.cells.items
   pub cells : (place : ℕ) (k : RKind) (c : RCell) → slice_get shape.cells.items place ≡ Some k → slice_get r.cells.items place ≡ Some c → FitsKind shape r.vector.counts k c
   -- all sets together have at most 1,024 pairs
-  pub pairs : sum_by pair_count r.cells.items ≤ 1024
+  pub pairs : sum_by pair_count r.cells.items ≤ PAIRS

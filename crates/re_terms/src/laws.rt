@@ -9,20 +9,31 @@ ghost use Rattle.re_terms.specs.Shapes.{FitsShape, pair_count, start_replicated}
 ghost use Rattle.re_terms.specs.TakenIn.{IsTakenIn};
 ghost use Rattle.re_terms.specs.Updates.{Update, IsCausalLog, IsCausallyClosed, IsIn, IsNext, count_of, covered, next_update, operation_of, vector_of};
 ghost use Rattle.re_terms.specs.UpdateSets.{EachOnce, SameUpdates, union};
-ghost use Rattle.re_terms.specs.UpdateStates.{after_operation, join_states, state_of_updates};
+ghost use Rattle.re_terms.specs.UpdateStates.{after_operation, content_of, join_cell, join_states, state_of_updates};
 ghost use Rattle.re_terms.specs.Values.{value_at, value_elements, view_of_updates};
 ghost use Rattle.re_terms.specs.Vectors.{join_vectors, with_dot};
 ghost use Rattle.re_terms.specs.Views.{cell_elements, view_of};
+ghost use Rattle.re_terms.specs.declared.limits.TheConstants.{PAIRS};
+ghost use Rattle.re_terms.specs.declared.replicated.RCell.{RCell};
+ghost use Rattle.re_terms.specs.declared.replicated.RKind.{RKind};
 ghost use Rattle.re_terms.specs.declared.replicated.RepOp.{RepOp};
 ghost use Rattle.re_terms.specs.declared.replicated.RState.{RState};
 ghost use Rattle.re_terms.specs.declared.replicated.Shape.{Shape};
+ghost use Rattle.re_terms.specs.declared.word.Kind.{Kind};
 ghost use Rattle.re_terms.specs.declared.word.Word.{Word};
 
-/// A kind of replicated cell. Its merge, of two values with the vectors of their devices, gives of what two causally
-/// closed parts of a log make what their union makes. It has no call when a program runs.
+/// A kind of replicated cell, as a state of the cells has it: what updates make of such a cell, and its merge. The merge,
+/// of two values with the vectors of their devices, gives of what two causally closed parts of a log make what their
+/// union makes. It has no call when a program runs.
 pub trait Replicated {
     /// What a cell of this kind consists of.
     type Content;
+
+    /// The kind of the cell, by a kind of words and a start word, where it has these.
+    ghost kind: { Kind → Word → RKind };
+
+    /// The state of the cell that consists of this.
+    ghost cell: { Self.Content → RCell };
 
     /// What updates make of the cell at a place, where the kind's start word is this one.
     ghost made: { Word → ℕ → List Update → Self.Content };
@@ -30,7 +41,13 @@ pub trait Replicated {
     /// The merge of two values, with their vectors.
     ghost merged: { List ℕ → List ℕ → Self.Content → Self.Content → Self.Content };
 
-    ghost join_law: { (start : Word) (cell : ℕ) → JoinLaw merged (made start cell) };
+    /// What updates make is the content that they give the cell in a state of updates.
+    ghost made_is: { (words : Kind) (start : Word) (place : ℕ) (us : List Update) → cell (made start place us) ≡ content_of (kind words start) place us };
+
+    /// The merge is that of the cell in the join of two states.
+    ghost merged_is: { (v w : List ℕ) (a b : Self.Content) → cell (merged v w a b) ≡ join_cell v w (cell a) (cell b) };
+
+    ghost join_law: { (start : Word) (place : ℕ) → JoinLaw merged (made start place) };
 }
 
 /// No dot names two updates of a causal log, each update stands in it once, and a causally closed vector is the vector of
@@ -99,7 +116,7 @@ pub fn fits_law()
 /// A state that fits a shape fits it after a merge with another such state, where the sets together have at most 1,024
 /// pairs, and after an operation that its cell takes and no limit stands against.
 pub fn fitting_law()
-    ensures joined { (shape : Shape) (a b : RState) → FitsShape shape a → FitsShape shape b → sum_by pair_count (join_states a b).cells.items ≤ 1024 → FitsShape shape (join_states a b) }
+    ensures joined { (shape : Shape) (a b : RState) → FitsShape shape a → FitsShape shape b → sum_by pair_count (join_states a b).cells.items ≤ PAIRS → FitsShape shape (join_states a b) }
     ensures operated { (shape : Shape) (device : ℕ) (op : RepOp) (r : RState) → shape.devices ≤ 16 → device < shape.devices → is_operation_in shape op ≡ true → operation_fault shape device op r ≡ None → FitsShape shape r → FitsShape shape (after_operation shape device op r) }
 {}
 

@@ -2,6 +2,8 @@
 ghost use Rattle.std.specs.Prelude.{◌≡◌, count_by};
 ghost use Rattle.re_terms.specs.Cells.{is_cell_body};
 ghost use Rattle.re_terms.specs.Programs.{is_device, is_device_body, is_replicated_body, is_symbol, is_symbol_body};
+ghost use Rattle.re_terms.specs.Propagation.{is_signal_body};
+ghost use Rattle.re_terms.specs.Worlds.{is_set_body};
 
 use crate::{Body, Decl};
 
@@ -25,6 +27,20 @@ impl Body {
         ensures { result ≡ is_cell_body self.now }
     {
         matches!(self, Body::Var { .. } | Body::Fold { .. })
+    }
+
+    /// Whether it is a signal.
+    pub fn is_signal(&self) -> bool
+        ensures { result ≡ is_signal_body self.now }
+    {
+        matches!(self, Body::Signal { .. })
+    }
+
+    /// Whether it is a set.
+    pub fn is_set(&self) -> bool
+        ensures { result ≡ is_set_body self.now }
+    {
+        matches!(self, Body::Set { .. })
     }
 
     /// Whether it is a replicated cell: a counter, a set or a register.
