@@ -4,7 +4,7 @@ use Rattle.std.specs.Prelude.{map}
 use Rattle.std.specs.List.{flat_map}
 use Rattle.std.proofs.lemmas.List.{length-append, append-nil}
 use Rattle.re_outside.specs.Outside.{Seen, Does, Breaks, IsAtEnd, none, plus, output_fault}
-use Rattle.re_outside.proofs.Does.{does_behind}
+use Rattle.re_outside.proofs.Does.{does-nil, does_behind, does_well}
 use Rattle.re_print.specs.Canonical.{program_text}
 use Rattle.re_terms.specs.declared.program.Program.{Program}
 use Rattle.re_terms.specs.Worlds.{Outcome, start_world}
@@ -26,13 +26,13 @@ use Rattle.re_tool.specs.Reads.{limit}
 use Rattle.re_tool.specs.Serving.{Starts}
 use Rattle.re_tool.specs.Session.{Runs, Finishes, HasSeparator, lines_of, part_lines}
 use Rattle.re_tool.specs.Verdict.{Verdict, Unknown, Rejected, Accepted, Decides, IsJudged, refusal_words}
-use Rattle.re_tool.proofs.Endings.{answers_to, ends_input, ends_done, ends_long, near_finish, separated_on}
-use Rattle.re_tool.proofs.Orders.{order_nil, ordered_all, ordered_on}
+use Rattle.re_tool.proofs.Endings.{answers_to, ends_input, ends_done, ends_long, near_finish, separated_on, stops_none, stops_input, ends_output, breaks_does}
+use Rattle.re_tool.proofs.Orders.{ordered_all}
 use Rattle.re_tool.proofs.Programs.{verdict-kept}
 use Rattle.re_tool.proofs.Sessions.{Near, with_lines, judged_at, session_at}
 use Rattle.re_tool.proofs.Splits.{split_lines, part_short}
 
-no_lines : (s : Option Session) (os : List Outcome) → session_text (first_lines 0 s) os ≡ []
+no_lines : (s : Option Session) (os : List Outcome) → session_text start_world (first_lines 0 s) os ≡ []
 no_lines None os = refl
 no_lines (Some s) os = refl
 
@@ -40,9 +40,9 @@ none_done : (s : Option Session) → length (lines_of (first_lines 0 s)) ≡ 0
 none_done None = refl
 none_done (Some s) = refl
 
-none_ordered : (a b : Seen) (s : Option Session) (read : List ℕ) → Does a b read [] none → OrderedIn a b (first_lines 0 s) [] []
-none_ordered a b None read d = refl
-none_ordered a b (Some s) read d = ordered_on a a b s.program [] [] [] _ _ _ (ordered_all a a s.program [] [] (order_nil a s.program)) d.moves
+none_ordered : (a b : Seen) (s : Option Session) (read : List ℕ) → Does a b read [] none → OrderedIn a b start_world (first_lines 0 s) [] []
+none_ordered a b None read d = (refl, refl, (read, d))
+none_ordered a b (Some s) read d = ordered_all a a b s.program (start_world s.program) [] [] read refl refl d
 
 unknown : (j : Job) (part : Option Part) → IsJudged j Unknown part (Some (0, true))
 unknown j None = refl
@@ -59,9 +59,12 @@ near_stops j a b read few d =
       verdict = Unknown;
       judged = unknown j (part_of read false);
       text = [];
-      does = d;
+      does = stops_none a b read [] d;
       unanswered = [];
       unsaid = omega arith;
+      calm = b;
+      halts = refl;
+      at_input = λ h. absurd (cc);
       ordered = none_ordered a b (session_of j Unknown read false) read d;
       answer = ap (close Unknown status.Memory) (no_lines (session_of j Unknown read false) []);
       complete = inl complete;
@@ -77,10 +80,10 @@ near_part_is j a b r text false s = near_stops j a b s.read s.few s.does
 
 -- what is said where no job goes on
 no_session : (j : Job) (v : Verdict) (read : List ℕ) (failed : Bool) (part : Option Part) (s : Status) → part_of read failed ≡ part → session_in v part ≡ None → checked_text v part ≡ [] → status_in j v part (ending read failed) ≡ s
-    → answers j v read record { commands = []; input_failed = failed; stopped = None } ≡ close v s []
+    → answers j v start_world read record { commands = []; input_failed = failed; stopped = None } ≡ close v s []
 no_session job.Run v read failed part s is lacks says st =
-    ap (λ x. close v x (session_text (session_of job.Run v read failed) [])) (ap (λ x. status_in job.Run v x (ending read failed)) is ∙ st)
-    ∙ ap (λ x. close v s (session_text x [])) (ap (session_in v) is ∙ lacks)
+    ap (λ x. close v x (session_text start_world (session_of job.Run v read failed) [])) (ap (λ x. status_in job.Run v x (ending read failed)) is ∙ st)
+    ∙ ap (λ x. close v s (session_text start_world x [])) (ap (session_in v) is ∙ lacks)
 no_session job.Check v read failed part s is lacks says st =
     ap (λ x. close v x (checked_text v (part_of read failed))) (ap (λ x. status_in job.Check v x (ending read failed)) is ∙ st)
     ∙ ap (close v s) (ap (checked_text v) is ∙ says)
@@ -94,8 +97,8 @@ rejected_session : (j : Job) (why : Refusal) (read : List ℕ) (failed : Bool) �
 rejected_session job.Run why read failed = refl
 rejected_session job.Check why read failed = refl
 
-no_order : (a b : Seen) (s : Option Session) → s ≡ None → OrderedIn a b s [] []
-no_order a b s e = subst (λ x. OrderedIn a b x [] []) (sym e) refl
+no_order : (a b : Seen) (s : Option Session) (read : List ℕ) → s ≡ None → Does a b read [] none → OrderedIn a b start_world s [] []
+no_order a b s read e d = subst (λ x. OrderedIn a b start_world x [] []) (sym e) (refl, refl, (read, d))
 
 no_lines_of : (s : Option Session) (n : ℕ) → s ≡ None → length (lines_of s) ≤ n
 no_lines_of s n e = omega (arith, ap (λ x. length (lines_of x)) e)
@@ -112,10 +115,13 @@ near_part_failed j a b f = record {
   verdict = Unknown;
   judged = none_judged j _ _ f.is_none;
   text = [];
-  does = f.does;
+  does = stops_input a f.mid b f.read [] f.does f.fails;
   unanswered = [];
   unsaid = refl;
-  ordered = no_order a b _ (unknown_session j f.read true);
+  calm = f.mid;
+  ordered = no_order a f.mid _ f.read (unknown_session j f.read true) f.does;
+  halts = f.fails;
+  at_input = λ h. refl;
   answer = no_session j Unknown f.read true None status.Input f.is_none refl refl (ends_input f.read f.few);
   complete = inl (no_lines_of _ _ (unknown_session j f.read true));
   far = tt;
@@ -132,10 +138,13 @@ near_part_too_long j a b f =
       verdict = Unknown;
       judged = none_judged j _ _ f.is_none;
       text = [];
-      does = f.does;
+      does = stops_none a b f.read [] f.does;
       unanswered = [];
       unsaid = refl;
-      ordered = no_order a b _ (unknown_session j f.read false);
+      calm = b;
+      ordered = no_order a b _ f.read (unknown_session j f.read false) f.does;
+      halts = refl;
+      at_input = λ h. absurd (cc);
       answer = no_session j Unknown f.read false None status.TooLong f.is_none refl refl (ends_long f.read false over);
       complete = inl (no_lines_of _ _ (unknown_session j f.read false));
       far = tt;
@@ -150,10 +159,13 @@ refused j a b read why part few is h d far = record {
   verdict = Rejected why;
   judged = subst (λ x. IsJudged j (Rejected why) x None) (sym is) (inl h);
   text = [];
-  does = d;
+  does = stops_none a b read [] d;
   unanswered = [];
   unsaid = refl;
-  ordered = no_order a b _ (rejected_session j why read false);
+  calm = b;
+  ordered = no_order a b _ read (rejected_session j why read false) d;
+  halts = refl;
+  at_input = λ h. absurd (cc);
   answer = no_session j (Rejected why) read false (Some part) status.Program is refl refl refl;
   complete = inl (no_lines_of _ _ (rejected_session j why read false));
   far = (few, far);
@@ -164,7 +176,7 @@ kept_verdict j v text part e h = verdict-kept j part v (subst (λ (t : Clipped).
 
 -- what `check` says of an accepted program part
 check_answers : (read : List ℕ) (part : Part) (p : Program) → part_of read false ≡ Some part
-    → answers job.Check (Accepted p) read record { commands = []; input_failed = false; stopped = None } ≡ (program_text p ++ [], status.Done)
+    → answers job.Check (Accepted p) start_world read record { commands = []; input_failed = false; stopped = None } ≡ (program_text p ++ [], status.Done)
 check_answers read part p is =
     ap (λ x. close (Accepted p) x (checked_text (Accepted p) (part_of read false))) (ap (λ x. status_in job.Check (Accepted p) x (ending read false)) is)
     ∙ ap (λ x. close (Accepted p) status.Done (checked_text (Accepted p) x)) is
@@ -183,11 +195,17 @@ said_all a b c read part p few is h d far says =
       verdict = Accepted p;
       judged = check_judged read part p is h;
       text = program_text p;
-      does = does_behind a b c read [] (program_text p) none none d says;
+      does = stops_none a c read (program_text p) (does_well a b c read [] (program_text p) none d says);
       tells = (ap (λ (x : List ℕ × Status). x.0) answer ∙ append-nil (program_text p), ap (λ (x : List ℕ × Status). x.1) answer);
       unanswered = [];
       whole = refl;
-      ordered = refl;
+      calm = b;
+      ordered = (refl, refl, (read, d));
+      halted = b;
+      halts = refl;
+      last = program_text p;
+      closes = says;
+      only = tt;
       far = (few, separated_on read b c says far);
     }
 
@@ -202,11 +220,17 @@ said_front a b c read part p few is h d breaks =
       verdict = Accepted p;
       judged = check_judged read part p is h;
       text = breaks.front;
-      does = does_behind a b c read [] breaks.front none (plus none output_fault) d breaks.does;
+      does = ends_output a b c false read [] breaks.front (stops_none a b read [] d) (breaks_does b c (program_text p) breaks);
       tells = (breaks.rest, ap (λ (x : List ℕ × Status). x.0) answer ∙ append-nil (program_text p) ∙ breaks.whole);
       unanswered = [];
       whole = omega arith;
-      ordered = refl;
+      calm = b;
+      ordered = (refl, refl, (read, d));
+      halted = b;
+      halts = refl;
+      last = program_text p;
+      closes = breaks;
+      only = tt;
       far = inl (omega arith);
     }
 
@@ -262,11 +286,17 @@ module _ (a b : Seen) (r : Reader) (text : Clipped) (d : ReadsAll r text a b) wh
         verdict = Accepted p;
         judged = judged_at p _ _ _ None d.is_part program;
         text = [];
-        does = d.does;
+        does = stops_none a b d.read [] d.does;
         tells = (ap (λ (x : List ℕ × Status). x.0) answer, ap (λ (x : List ℕ × Status). x.1) answer);
         unanswered = [];
         whole = refl;
-        ordered = subst (λ x. OrderedIn a b x [] []) (sym session) (ordered_on a a b p [] [] [] _ _ _ (ordered_all a a p [] [] (order_nil a p)) d.does.moves);
+        calm = b;
+        ordered = subst (λ x. OrderedIn a b start_world x [] []) (sym session) (ordered_all a a b p (start_world p) [] [] d.read refl refl d.does);
+        halted = b;
+        halts = refl;
+        last = [];
+        closes = does-nil b;
+        only = tt;
         far = d.end;
       }
 

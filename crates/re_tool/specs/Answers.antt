@@ -4,7 +4,7 @@
 use Rattle.std.specs.Prelude.{ℕ, ◌-◌, List, [], ◌∷◌, ◌++◌, Bool, true, false, Option, Some, None, Result, Ok, Err, if◌then◌else◌, take, codes}
 use Rattle.re_terms.specs.declared.program.Program.{Program}
 use Rattle.re_terms.specs.declared.command.Command.{Command}
-use Rattle.re_terms.specs.Worlds.{World, Outcome, Fine, Memory, PlainAnswer, Refused, start_world, reply, world_after}
+use Rattle.re_terms.specs.Worlds.{World, Outcome, Fine, Memory, PlainAnswer, Refused, reply, world_after}
 use Rattle.re_commands.specs.declared.fault.CommandFault.{CommandFault}
 use Rattle.re_commands.specs.declared.fault.CommandFault.TheVariants as fault
 use Rattle.re_tool.specs.declared.words.Job.{Job}
@@ -128,10 +128,10 @@ status_line refusal s = []
 abbrev pub close : Verdict → Status → List ℕ → List ℕ × Status
 close v s text = (text ++ status_line (refusal_text v) s, s)
 
--- what a session says
-abbrev pub session_text : Option Session → List Outcome → List ℕ
-session_text None os = []
-session_text (Some s) os = texts s.program (start_world s.program) s.lines os
+-- what a session says that begins in this world
+abbrev pub session_text : (Program → World) → Option Session → List Outcome → List ℕ
+session_text start None os = []
+session_text start (Some s) os = texts s.program (start s.program) s.lines os
 
 -- what `check` says of an accepted program part: its canonical text
 abbrev pub checked_text : Verdict → Option Part → List ℕ
@@ -139,9 +139,9 @@ checked_text (Accepted p) (Some part) = program_text p
 checked_text v part = []
 
 -- what a job says where it isn't cut short
-abbrev pub job_text : Job → Verdict → List ℕ → List Outcome → Bool → List ℕ
-job_text job.Run v read os failed = session_text (session_of job.Run v read failed) os
-job_text job.Check v read os failed = checked_text v (part_of read failed)
+abbrev pub job_text : Job → Verdict → (Program → World) → List ℕ → List Outcome → Bool → List ℕ
+job_text job.Run v start read os failed = session_text start (session_of job.Run v read failed) os
+job_text job.Check v start read os failed = checked_text v (part_of read failed)
 
 -- a session of its first n lines
 abbrev pub first_lines : ℕ → Option Session → Option Session
@@ -160,10 +160,10 @@ done_by (Some (n, said)) s = first_lines n s
 abbrev pub done : Job → Verdict → List ℕ → Outcomes → Option Session
 done j v read o = done_by o.stopped (session_of j v read o.input_failed)
 
-abbrev pub answers_by : Option (ℕ × Bool) → Job → Verdict → List ℕ → List Outcome → Bool → List ℕ × Status
-answers_by None j v read os failed = close v (status_of j v read failed) (job_text j v read os failed)
-answers_by (Some (n, said)) j v read os failed = close v status.Memory (session_text (first_lines (said_lines n said) (session_of j v read failed)) os)
+abbrev pub answers_by : Option (ℕ × Bool) → Job → Verdict → (Program → World) → List ℕ → List Outcome → Bool → List ℕ × Status
+answers_by None j v start read os failed = close v (status_of j v read failed) (job_text j v start read os failed)
+answers_by (Some (n, said)) j v start read os failed = close v status.Memory (session_text start (first_lines (said_lines n said) (session_of j v read failed)) os)
 
--- the output and the status of a job, where the program part has this verdict
-abbrev pub answers : Job → Verdict → List ℕ → Outcomes → List ℕ × Status
-answers j v read o = answers_by o.stopped j v read o.commands o.input_failed
+-- the output and the status of a job, where the program part has this verdict and a session begins in this world
+abbrev pub answers : Job → Verdict → (Program → World) → List ℕ → Outcomes → List ℕ × Status
+answers j v start read o = answers_by o.stopped j v start read o.commands o.input_failed

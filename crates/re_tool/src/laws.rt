@@ -1,4 +1,5 @@
 //! What follows from the definitions of the answers, for every program and every session.
+ghost use Rattle.std.specs.List.{flat_map};
 ghost use Rattle.std.specs.Prelude.{◌≡◌, ℕ, List, [], ◌∷◌, ◌++◌, ◌≢◌, ◌↔◌, slice_get, Ok, Some, None};
 ghost use Rattle.re_terms.specs.declared.expr.Expr.{Expr};
 ghost use Rattle.re_terms.specs.declared.program.Decl.{Decl};
@@ -14,6 +15,8 @@ ghost use Rattle.re_commands.specs.Commanding.{commanded};
 ghost use Rattle.re_print.specs.Canonical.{word_text};
 ghost use Rattle.re_tool.specs.Answers.{line_answer, line_text, lines_after, fault_code};
 ghost use Rattle.re_tool.specs.Histories.{last_set, taken};
+ghost use Rattle.re_tool.specs.Lines.{split, ended, IsPlain, ArePlain};
+ghost use Rattle.re_tool.specs.Part.{divided, Undivided, IsFirstSeparator};
 
 use re_commands::CommandFault;
 use re_terms::{Body, Command};
@@ -50,4 +53,13 @@ pub fn refusal_law()
         (line_answer p w (commanded p line) o ≡ None) ↔ (commanded p line ≡ Ok None) }
     ensures memory { (p : Program) (w : World) (line : List ℕ) (o : Outcome) →
         (line_answer p w (commanded p line) o ≡ Some (Refused 36)) ↔ ((o ≡ Memory) × (commanded p line ≢ Ok None)) }
+{}
+
+/// The lines of some bytes, each with its LF, and the rest are these bytes, and no LF stands elsewhere. What divides
+/// lines is the first separator among them: the lines before it are the program part.
+pub fn lines_law()
+    ensures whole { (bytes : List ℕ) → flat_map ended (split bytes).0 ++ (split bytes).1 ≡ bytes }
+    ensures plain { (bytes : List ℕ) → ArePlain (split bytes).0 × IsPlain (split bytes).1 }
+    ensures separator { (lines front back : List (List ℕ)) → divided lines ≡ Some (front, back) → IsFirstSeparator lines front back }
+    ensures no_separator { (lines : List (List ℕ)) → divided lines ≡ None → Undivided lines }
 {}
