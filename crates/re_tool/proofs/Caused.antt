@@ -4,7 +4,7 @@ use Rattle.std.specs.Prelude.{if◌then◌else◌, ◌||◌}
 use Rattle.std.specs.List.{flat_map}
 use Rattle.std.proofs.lemmas.Bool.{lt-ltb, le-ltb, ltb-true}
 use Rattle.std.proofs.lemmas.List.{append_cancel_right}
-use Rattle.re_outside.specs.Outside.{Seen, Counts, Does, none}
+use Rattle.re_outside.specs.Outside.{Seen, Input, Output, Counts, Does, none}
 use Rattle.re_terms.specs.Worlds.{start_world}
 use Rattle.re_tool.specs.declared.words.Job.{Job}
 use Rattle.re_tool.specs.declared.words.Job.TheVariants as job
@@ -16,7 +16,9 @@ use Rattle.re_tool.specs.Causes.{IsUnlessEnded, InputCause, OutputCause, EndCaus
 use Rattle.re_tool.specs.Lines.{split, ended}
 use Rattle.re_tool.specs.Part.{Part, divided, part_of, part_by, is_over}
 use Rattle.re_tool.specs.Reads.{limit}
-use Rattle.re_tool.specs.Session.{Runs, Finishes, Refuses, one_if, is_output}
+use Rattle.re_tool.specs.Session.{Runs, Finishes, Refuses, one_if, is_output, faults_of}
+use Rattle.re_outside.proofs.Does.{does-nil, breaks_does}
+use Rattle.re_tool.proofs.Ends.{stops_none, ends_output}
 use Rattle.re_tool.specs.Verdict.{Verdict, Unknown, Rejected, Accepted, HasVerdict, Decides, IsJudged}
 
 -- what the answers' status is
@@ -83,16 +85,16 @@ ending_long true failed h = refl
 ending_long false true h = absurd (cc)
 ending_long false false h = absurd (cc)
 
-at_input : (j : Job) (a b : Seen) → Runs j a b status.Input → Counts 1 a.input_faults b.input_faults
+at_input : (j : Job) (a b : Seen) → Runs j a b status.Input → Counts 1 (a.faults Input) (b.faults Input)
 at_input j a b r =
     let e = in_part j r.verdict (part_of r.read r.outcomes.input_failed) (ending r.read r.outcomes.input_failed) status.Input (status_read j a b status.Input r (λ h. absurd (cc)) (λ h. absurd (cc))) (λ h. absurd (cc)) (λ h. absurd (cc)) in
-    subst (λ f. Counts (one_if f) a.input_faults b.input_faults) (ending_input (is_over r.read) r.outcomes.input_failed e) r.does.moves.input_faults
+    subst (λ f. Counts (one_if f) (a.faults Input) (b.faults Input)) (ending_input (is_over r.read) r.outcomes.input_failed e) (r.does.moves.counts Input)
 
 pub input_cause : (j : Job) (a b : Seen) (s : Status) → Runs j a b s → InputCause a b s
 input_cause j a b s r h = at_input j a b (subst (Runs j a b) h r)
 
 pub output_cause : (j : Job) (a b : Seen) (s : Status) → Runs j a b s → OutputCause a b s
-output_cause j a b s r = r.does.moves.output_faults
+output_cause j a b s r = r.does.moves.counts Output
 
 at_done : (j : Job) (a b : Seen) → Runs j a b status.Done → IsRead j a b
 at_done job.Run a b r = r.far
@@ -302,13 +304,13 @@ program_cause j a b s r = record {
 -- nothing was taken, and a last line was said or broke off
 pub record EndsAtOnce (old new : Seen) (s : Status) : Type 0 where
   pub text : List ℕ
-  pub does : Does old new [] text record { input = 0; output = one_if (is_output s) }
+  pub does : Does old new [] text (faults_of false (is_output s))
 
 ends_said : (a b : Seen) (text : List ℕ) (s : Status) → is_output s ≡ false → Does a b [] text none → EndsAtOnce a b s
-ends_said a b text s h d = record { text = text; does = subst (λ x. Does a b [] text record { input = 0; output = one_if x }) (sym h) d }
+ends_said a b text s h d = record { text = text; does = subst (λ x. Does a b [] text (faults_of false x)) (sym h) (stops_none a b [] text d) }
 
 finishes_at_once : (a b : Seen) (line : List ℕ) (wanted s : Status) → Finishes a b line wanted s → EndsAtOnce a b s
-finishes_at_once a b line wanted status.Output d = record { text = d.front; does = d.does }
+finishes_at_once a b line wanted status.Output d = record { text = d.front; does = ends_output a a b false [] [] d.front (stops_none a a [] [] (does-nil a)) (breaks_does a b line none d) }
 finishes_at_once a b line wanted status.Done d = ends_said a b _ status.Done refl d.1
 finishes_at_once a b line wanted status.Words d = ends_said a b _ status.Words refl d.1
 finishes_at_once a b line wanted status.Program d = ends_said a b _ status.Program refl d.1
@@ -363,7 +365,7 @@ pub refused_input : (a b : Seen) (s : Status) → Refuses a b s → InputCause a
 refused_input a b s d h = absurd (never s status.Input (refuses_with a b s d) h (λ q. cc) (λ q. cc) (λ q. cc))
 
 pub refused_output : (a b : Seen) (s : Status) → Refuses a b s → OutputCause a b s
-refused_output a b s d = (refuses_at_once a b s d).does.moves.output_faults
+refused_output a b s d = (refuses_at_once a b s d).does.moves.counts Output
 
 pub refused_end : (j : Job) (a b : Seen) (s : Status) → Refuses a b s → EndCause j a b s
 refused_end j a b s d h = absurd (never s status.Done (refuses_with a b s d) h (λ q. cc) (λ q. cc) (λ q. cc))
@@ -416,8 +418,8 @@ pub completes : (j : Job) (a b : Seen) (s : Status) → Runs j a b s → Complet
 completes j a b status.Done r u = inl refl
 completes j a b status.Memory r u = inr refl
 completes j a b status.Program r u = absurd (u.accepted (at_program j a b r u.told))
-completes j a b status.Input r u = absurd (u.input (at_input j a b r))
-completes j a b status.Output r u = absurd (u.output (output_cause j a b status.Output r))
+completes j a b status.Input r u = absurd (u.quiet Input (at_input j a b r))
+completes j a b status.Output r u = absurd (u.quiet Output (output_cause j a b status.Output r))
 completes j a b status.TooLong r u = absurd (u.few (at_too_long j a b r u.told))
 completes j a b status.Words r u = absurd (no_other j a b status.Words r (λ h. absurd (cc)) (λ h. absurd (cc)) (λ h. absurd (cc)) (λ h. absurd (cc)) (λ h. absurd (cc)) (λ h. absurd (cc)))
 completes j a b status.Store r u = absurd (no_other j a b status.Store r (λ h. absurd (cc)) (λ h. absurd (cc)) (λ h. absurd (cc)) (λ h. absurd (cc)) (λ h. absurd (cc)) (λ h. absurd (cc)))

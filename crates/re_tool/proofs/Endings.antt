@@ -5,9 +5,8 @@ use Rattle.std.specs.List.{flat_map}
 use Rattle.std.proofs.lemmas.Bool.{lt-ltb, le-ltb}
 use Rattle.std.proofs.lemmas.List.{append-nil, take_at, length_push, map-append}
 use Rattle.re_outside.specs.Outside.{Seen, Does, Breaks, IsAtEnd, Faults, none, input_fault, output_fault, plus}
-use Rattle.re_outside.proofs.Does.{does-nil, does_as, does_well, does_behind, fails_take, at_end}
-use Rattle.re_outside.specs.Outside.{Fails}
-use Rattle.re_outside.specs.declared.step.Call.TheVariants as call
+use Rattle.re_outside.proofs.Does.{does-nil, does_well, breaks_does, at_end}
+use Rattle.re_tool.proofs.Ends.{stops_none, stops_input, ends_output}
 use Rattle.re_terms.specs.declared.program.Program.{Program}
 use Rattle.re_terms.specs.Worlds.{Outcome, start_world}
 use Rattle.re_tool.specs.declared.reader.Reader.{Reader}
@@ -52,26 +51,6 @@ ends_done read h = rw (le-ltb limit (length read) h) refl
 pub ends_long : (read : List ℕ) (failed : Bool) → limit < length read → ending read failed ≡ status.TooLong
 ends_long read failed h = rw (lt-ltb limit (length read) h) refl
 
--- a `take` fails behind what was done
-pub stops_input : (a b c : Seen) (read text : List ℕ) → Does a b read text none → Fails b c call.Take input_fault → Does a c read text (faults_of true false)
-stops_input a b c read text d f = does_as a c read _ text _ _ (does_behind a b c read text [] none input_fault d (fails_take b c f)) (append-nil text) fault_is
-  where
-    fault_is : plus none input_fault ≡ faults_of true false
-    fault_is = refl
-
--- no fault came
-pub stops_none : (a b : Seen) (read text : List ℕ) → Does a b read text none → Does a b read text (faults_of false false)
-stops_none a b read text d = does_as a b read text text none (faults_of false false) d refl refl
-
--- a `say` fails behind what was done
-pub ends_output : (a b c : Seen) (failed : Bool) (read text front : List ℕ) → Does a b read text (faults_of failed false) → Does b c [] front output_fault → Does a c read (text ++ front) (faults_of failed true)
-ends_output a b c true read text front d e = does_as a c read _ _ _ _ (does_behind a b c read text front (faults_of true false) output_fault d e) refl refl
-ends_output a b c false read text front d e = does_as a c read _ _ _ _ (does_behind a b c read text front (faults_of false false) output_fault d e) refl refl
-
--- what is said of a text that breaks off
-pub breaks_does : (b c : Seen) (text : List ℕ) (d : Breaks b c text none) → Does b c [] d.front output_fault
-breaks_does b c text d = d.does
-
 at_least : (xs ys : List (List ℕ)) → length xs ≤ length (xs ++ ys)
 at_least xs ys = omega (arith, length-append xs ys)
 
@@ -96,7 +75,7 @@ module _ (a b c : Seen) (p : Program) (r r' : Reader) (device : DeviceState) (li
         verdict = Accepted p;
         judged = judged_at p _ _ _ None (cut false) s.program;
         text = texts p (start_world p) lines s.outcomes;
-        does = does_more a b c s.read d.bytes _ s.does d.does;
+        does = stops_none a c read _ (does_more a b c s.read d.bytes _ s.does d.does);
         unanswered = [];
         unsaid = refl;
         calm = c;
@@ -129,7 +108,7 @@ module _ (a b c : Seen) (p : Program) (r r' : Reader) (device : DeviceState) (li
         verdict = Accepted p;
         judged = judged_at p _ _ _ (Some (n, true)) (part false) s.program;
         text = texts p (start_world p) lines s.outcomes;
-        does = does_more a b c s.read d.bytes _ s.does d.does;
+        does = stops_none a c read _ (does_more a b c s.read d.bytes _ s.does d.does);
         unanswered = [];
         unsaid = omega arith;
         calm = c;
@@ -207,7 +186,7 @@ module _ (a c e : Seen) (p : Program) (device : DeviceState) (line : List ℕ) (
         verdict = Accepted p;
         judged = q.judged (Some (length q.lines + 1, false));
         text = texts p (start_world p) q.lines q.outcomes;
-        does = says_more a c e q.read _ [] _ q.does d (sym (append-nil _));
+        does = stops_none a e q.read _ (says_more a c e q.read _ [] _ q.does d (sym (append-nil _)));
         unanswered = line ∷ [];
         unsaid = omega arith;
         calm = e;
@@ -226,7 +205,7 @@ module _ (a c e : Seen) (p : Program) (device : DeviceState) (line : List ℕ) (
       let o = t.answers.outcome in
       let d = t.breaks in
       let os = q.outcomes ++ o ∷ [] in
-      let broken = breaks_does c e t.text d in
+      let broken = breaks_does c e t.text none d in
       record {
         read = q.read;
         few = omega (arith, q.few);
@@ -394,7 +373,7 @@ module _ (j : Job) (a b c : Seen) (s : Status) (n : Near j a b s) where
   -- the last line breaks off
   near_broke : Breaks b c (status_line (refusal_text n.verdict) s) none → Runs j a c status.Output
   near_broke d =
-      let broken = breaks_does b c (status_line (refusal_text n.verdict) s) d in
+      let broken = breaks_does b c (status_line (refusal_text n.verdict) s) none d in
       record {
         read = n.read;
         few = n.few;

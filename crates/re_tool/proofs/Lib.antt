@@ -7,6 +7,8 @@ pub mod Programs
 pub mod Parts
 pub mod Refusals
 pub mod Endings
+pub mod Ends
+pub mod Failing
 pub mod PassedLines
 pub mod Serves
 pub mod Sessions

@@ -4,7 +4,7 @@ use Rattle.std.specs.Prelude.{map}
 use Rattle.std.specs.List.{flat_map}
 use Rattle.std.proofs.lemmas.List.{length-append, append-nil}
 use Rattle.re_outside.specs.Outside.{Seen, Does, Breaks, IsAtEnd, none, plus, output_fault}
-use Rattle.re_outside.proofs.Does.{does-nil, does_behind, does_well}
+use Rattle.re_outside.proofs.Does.{does-nil, does_well, breaks_does}
 use Rattle.re_print.specs.Canonical.{program_text}
 use Rattle.re_terms.specs.declared.program.Program.{Program}
 use Rattle.re_terms.specs.Worlds.{Outcome, start_world}
@@ -26,7 +26,8 @@ use Rattle.re_tool.specs.Reads.{limit}
 use Rattle.re_tool.specs.Serving.{Starts}
 use Rattle.re_tool.specs.Session.{Runs, Finishes, HasSeparator, lines_of, part_lines}
 use Rattle.re_tool.specs.Verdict.{Verdict, Unknown, Rejected, Accepted, Decides, IsJudged, refusal_words}
-use Rattle.re_tool.proofs.Endings.{answers_to, ends_input, ends_done, ends_long, near_finish, separated_on, stops_none, stops_input, ends_output, breaks_does}
+use Rattle.re_tool.proofs.Endings.{answers_to, ends_input, ends_done, ends_long, near_finish, separated_on}
+use Rattle.re_tool.proofs.Ends.{stops_none, stops_input, ends_output}
 use Rattle.re_tool.proofs.Orders.{ordered_all}
 use Rattle.re_tool.proofs.Programs.{verdict-kept}
 use Rattle.re_tool.proofs.Sessions.{Near, with_lines, judged_at, session_at}
@@ -220,7 +221,7 @@ said_front a b c read part p few is h d breaks =
       verdict = Accepted p;
       judged = check_judged read part p is h;
       text = breaks.front;
-      does = ends_output a b c false read [] breaks.front (stops_none a b read [] d) (breaks_does b c (program_text p) breaks);
+      does = ends_output a b c false read [] breaks.front (stops_none a b read [] d) (breaks_does b c (program_text p) none breaks);
       tells = (breaks.rest, ap (λ (x : List ℕ × Status). x.0) answer ∙ append-nil (program_text p) ∙ breaks.whole);
       unanswered = [];
       whole = omega arith;

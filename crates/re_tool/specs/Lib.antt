@@ -4,6 +4,7 @@ pub mod Built
 pub mod Causes
 pub mod Clipped
 pub mod Device
+pub mod Failures
 pub mod Faults
 pub mod Histories
 pub mod Lines

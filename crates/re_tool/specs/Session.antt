@@ -1,6 +1,6 @@
 -- What a whole run does.
 use Rattle.std.specs.Prelude.{ℕ, ◌≡◌, ◌≤◌, ◌+◌, ◌++◌, ◌⊎◌, length, List, [], Bool, true, false, Option, Some, None, IsSome}
-use Rattle.re_outside.specs.Outside.{Seen, Does, Fails, Breaks, IsAtEnd, Faults, none, input_fault, output_fault, plus}
+use Rattle.re_outside.specs.Outside.{Seen, FaultKind, Input, Output, Disk, Does, Fails, Breaks, IsAtEnd, Faults, none, input_fault}
 use Rattle.re_outside.specs.declared.step.Call.TheVariants as call
 use Rattle.re_terms.specs.Worlds.{start_world}
 use Rattle.re_tool.specs.declared.words.Job.{Job}
@@ -27,8 +27,11 @@ abbrev pub one_if : Bool → ℕ
 one_if true = 1
 one_if false = 0
 
+-- a call that takes failed or not, a call that says failed or not, and none on a file
 abbrev pub faults_of : Bool → Bool → Faults
-faults_of input output = record { input = one_if input; output = one_if output }
+faults_of input output Input = one_if input
+faults_of input output Output = one_if output
+faults_of input output (Disk device) = 0
 
 -- at the end for want of memory or of output at most one line, the last, has no whole answer
 abbrev pub Unanswered : Status → List (List ℕ) → Type 0

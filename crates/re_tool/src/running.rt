@@ -7,6 +7,7 @@ ghost use Rattle.re_terms.specs.Worlds.{is_set_at};
 ghost use Rattle.re_tool.specs.Answers.{status_line, fault_code};
 ghost use Rattle.re_tool.specs.Causes.{EndCause, ProgramCause, InputCause, OutputCause, TooLongCause, Completes};
 ghost use Rattle.re_tool.specs.Device.{StepsTo, turn_fault_code};
+ghost use Rattle.re_tool.specs.Failures.{StopsAtFailures};
 ghost use Rattle.re_tool.specs.Clipped.{Clipped};
 ghost use Rattle.re_tool.specs.PartReading.{PartIs};
 ghost use Rattle.re_tool.specs.Opening.{Opens};
@@ -415,6 +416,7 @@ pub fn session<O: Outside>(alloc: Global, job: &Job, out: &mut O) -> Status
     ensures output { OutputCause (O.seen out.old) (O.seen out.new) result }
     ensures too_long { TooLongCause (O.seen out.old) (O.seen out.new) result }
     ensures complete { Completes job.now (O.seen out.old) (O.seen out.new) result }
+    ensures failures { StopsAtFailures (O.seen out.old) (O.seen out.new) result }
 {
     match job {
         Job::Run => run(alloc, out),
