@@ -15,7 +15,8 @@ use Rattle.re_tool.specs.declared.words.Job.TheVariants as job
 use Rattle.re_tool.specs.declared.status.Status.{Status}
 use Rattle.re_tool.specs.declared.status.Status.TheVariants as status
 use Rattle.re_tool.specs.Acts.{Ordered, OrderedIn}
-use Rattle.re_tool.specs.Answers.{Outcomes, Session, texts, lines_after, session_of, session_in, answers, done, close, status_line, status_in, ending, session_text, first_lines}
+use Rattle.re_tool.specs.Answers.{Outcomes, Session, texts, lines_after, session_of, session_in, answers, done, close, ending_in, reading_end, session_text, first_lines}
+use Rattle.re_tool.specs.Endings.{Ending, Done, InputFault, NoMemory, InputTooLong, status_at, last_line}
 use Rattle.re_tool.specs.Clipped.{Clipped}
 use Rattle.re_device.specs.Device.{DeviceState}
 use Rattle.re_tool.specs.Lines.{split, ended, without_return}
@@ -23,7 +24,7 @@ use Rattle.re_tool.specs.Part.{Part, part_of, last_lines}
 use Rattle.re_tool.specs.Reads.{Reads, ReadFails, Takes, limit}
 use Rattle.re_tool.specs.Serving.{Turns, TurnLost, TurnBreaks}
 use Rattle.re_tool.specs.Session.{Runs, Tells, Unanswered, Closes, OnlyLastLine, Finishes, ReadFar, HasSeparator, lines_of, part_lines, faults_of, is_output}
-use Rattle.re_tool.specs.Verdict.{Verdict, Accepted, refusal_text}
+use Rattle.re_tool.specs.Verdict.{Verdict, Accepted}
 use Rattle.re_tool.proofs.Orders.{texts_more, texts_front, acts_more, act_said, ordered_all, ordered_but_one}
 use Rattle.re_tool.proofs.Parts.{read_more, taken_more}
 use Rattle.re_tool.proofs.PassedLines.{does_more}
@@ -31,24 +32,24 @@ use Rattle.re_tool.proofs.Sessions.{SoFar, Ready, Near, with_lines, says_more, p
 use Rattle.re_tool.proofs.Splits.{split_lines, split_last}
 
 -- an accepted program doesn't end the run
-runs_on : (p : Program) (part : Option Part) (s : Status) → status_in job.Run (Accepted p) part s ≡ s
+runs_on : (p : Program) (part : Option Part) (e : Ending) → ending_in job.Run (Accepted p) part e ≡ e
 runs_on p None s = refl
 runs_on p (Some part) s = refl
 
 -- what a run says of a session that it came to the end of
-pub answers_to : (read : List ℕ) (failed : Bool) (p : Program) (lines : List (List ℕ)) (os : List Outcome) (s : Status) → session_of job.Run (Accepted p) read failed ≡ with_lines p lines → ending read failed ≡ s
-    → answers job.Run (Accepted p) start_world read record { commands = os; input_failed = failed; stopped = None } ≡ close (Accepted p) s (texts p (start_world p) lines os)
+pub answers_to : (read : List ℕ) (failed : Bool) (p : Program) (lines : List (List ℕ)) (os : List Outcome) (s : Ending) → session_of job.Run (Accepted p) read failed ≡ with_lines p lines → reading_end read failed ≡ s
+    → answers job.Run (Accepted p) start_world read record { commands = os; input_failed = failed; stopped = None } ≡ close s (texts p (start_world p) lines os)
 answers_to read failed p lines os s is e =
-    ap (λ x. close (Accepted p) x (session_text start_world (session_of job.Run (Accepted p) read failed) os)) (runs_on p (part_of read failed) (ending read failed) ∙ e)
-    ∙ ap (λ x. close (Accepted p) s (session_text start_world x os)) is
+    ap (λ x. close x (session_text start_world (session_of job.Run (Accepted p) read failed) os)) (runs_on p (part_of read failed) (reading_end read failed) ∙ e)
+    ∙ ap (λ x. close s (session_text start_world x os)) is
 
-pub ends_input : (read : List ℕ) → length read ≤ limit → ending read true ≡ status.Input
+pub ends_input : (read : List ℕ) → length read ≤ limit → reading_end read true ≡ InputFault
 ends_input read h = rw (le-ltb limit (length read) h) refl
 
-pub ends_done : (read : List ℕ) → length read ≤ limit → ending read false ≡ status.Done
+pub ends_done : (read : List ℕ) → length read ≤ limit → reading_end read false ≡ Done
 ends_done read h = rw (le-ltb limit (length read) h) refl
 
-pub ends_long : (read : List ℕ) (failed : Bool) → limit < length read → ending read failed ≡ status.TooLong
+pub ends_long : (read : List ℕ) (failed : Bool) → limit < length read → reading_end read failed ≡ InputTooLong
 ends_long read failed h = rw (lt-ltb limit (length read) h) refl
 
 at_least : (xs ys : List (List ℕ)) → length xs ≤ length (xs ++ ys)
@@ -56,7 +57,7 @@ at_least xs ys = omega (arith, length-append xs ys)
 
 module _ (a b c : Seen) (p : Program) (r r' : Reader) (device : DeviceState) (line' : Clipped) (most : ℕ) (s : SoFar a b p r device) where
   -- too much input came
-  pub near_too_long : Reads r r' line' most b c [] → r'.taken ≡ limit + 1 → length r'.chunk ≡ 1 → Near job.Run a c status.TooLong
+  pub near_too_long : Reads r r' line' most b c [] → r'.taken ≡ limit + 1 → length r'.chunk ≡ 1 → Near job.Run a c InputTooLong
   near_too_long d long one =
       let lines = map without_return s.raws in
       let read = s.read ++ d.bytes in
@@ -82,13 +83,13 @@ module _ (a b c : Seen) (p : Program) (r r' : Reader) (device : DeviceState) (li
         halts = refl;
         at_input = λ h. absurd (cc);
         ordered = subst (λ x. OrderedIn a c start_world x s.outcomes []) (sym is) (near_ordered a b c p r device s d.bytes d.does);
-        answer = answers_to read false p lines s.outcomes status.TooLong is (ends_long read false over);
+        answer = answers_to read false p lines s.outcomes InputTooLong is (ends_long read false over);
         complete = inl (omega (arith, ap (λ x. length (lines_of (session_in (Accepted p) x))) (cut false), ap (λ x. length (part_lines x)) (cut true)));
         far = tt;
       }
 
   -- memory ran out while a line was read
-  pub near_halted : Takes r r' b c → r'.taken ≤ limit → Near job.Run a c status.Memory
+  pub near_halted : Takes r r' b c → r'.taken ≤ limit → Near job.Run a c NoMemory
   near_halted d few =
       let lines = map without_return s.raws in
       let n = length lines in
@@ -115,13 +116,13 @@ module _ (a b c : Seen) (p : Program) (r r' : Reader) (device : DeviceState) (li
         halts = refl;
         at_input = λ h. absurd (cc);
         ordered = subst (λ x. OrderedIn a c start_world x s.outcomes []) (sym is) (near_ordered a b c p r device s d.bytes d.does);
-        answer = ap (λ x. close (Accepted p) status.Memory (session_text start_world x s.outcomes)) is;
+        answer = ap (λ x. close NoMemory (session_text start_world x s.outcomes)) is;
         complete = inl (omega (arith, ap (λ x. length (lines_of x)) is, ap (λ x. length (part_lines x)) (part true), at_least lines (map without_return (split rest).0 ++ [])));
         far = inl (omega (arith, ap (λ x. length (lines_of x)) is, ap (λ x. length (part_lines x)) (part true), at_least lines (map without_return (split rest).0 ++ [])));
       }
 
 -- the input failed
-pub near_failed : (a b c : Seen) (p : Program) (r r' : Reader) (device : DeviceState) (line' : Clipped) (most : ℕ) (s : SoFar a b p r device) → ReadFails r r' line' most b c → r'.taken ≤ limit → r'.chunk ≡ [] → Near job.Run a c status.Input
+pub near_failed : (a b c : Seen) (p : Program) (r r' : Reader) (device : DeviceState) (line' : Clipped) (most : ℕ) (s : SoFar a b p r device) → ReadFails r r' line' most b c → r'.taken ≤ limit → r'.chunk ≡ [] → Near job.Run a c InputFault
 near_failed a b c p r r' device line' most s f few empty =
     let d = f.reads in
     let lines = map without_return s.raws in
@@ -143,7 +144,7 @@ near_failed a b c p r r' device line' most s f few empty =
       ordered = subst (λ x. OrderedIn a f.mid start_world x s.outcomes []) (sym is) (near_ordered a b f.mid p r device s d.bytes d.does);
       halts = f.fails;
       at_input = λ h. refl;
-      answer = answers_to read true p lines s.outcomes status.Input is (ends_input read short);
+      answer = answers_to read true p lines s.outcomes InputFault is (ends_input read short);
       complete = inl (omega (arith, ap (λ x. length (lines_of (session_in (Accepted p) x))) part, ap (λ x. length (part_lines x)) part));
       far = tt;
     }
@@ -175,7 +176,7 @@ module _ (a c e : Seen) (p : Program) (device : DeviceState) (line : List ℕ) (
       cases (inr end) = inr (at_end c e text f d end)
 
   -- memory ran out for the answer
-  pub near_memory : (device' : DeviceState) → TurnLost p line device device' c e → Near job.Run a e status.Memory
+  pub near_memory : (device' : DeviceState) → TurnLost p line device device' c e → Near job.Run a e NoMemory
   near_memory device' t =
       let os = q.outcomes ++ t.answers.outcome ∷ [] in
       let d = t.does in
@@ -193,7 +194,7 @@ module _ (a c e : Seen) (p : Program) (device : DeviceState) (line : List ℕ) (
         ordered = subst (λ x. OrderedIn a e start_world x os (line ∷ [])) (sym with_this) (ordered_with t.answers.outcome d);
         halts = refl;
         at_input = λ h. absurd (cc);
-        answer = ap (λ x. close (Accepted p) status.Memory (session_text start_world x os)) without_this ∙ ap (close (Accepted p) status.Memory) (texts_front p (start_world p) q.lines q.outcomes t.answers.outcome q.same);
+        answer = ap (λ x. close NoMemory (session_text start_world x os)) without_this ∙ ap (close NoMemory) (texts_front p (start_world p) q.lines q.outcomes t.answers.outcome q.same);
         complete = complete_with (length q.lines + 1) refl d;
         far = complete_with (length q.lines + 1) refl d;
       }
@@ -215,9 +216,9 @@ module _ (a c e : Seen) (p : Program) (device : DeviceState) (line : List ℕ) (
         text = texts p (start_world p) q.lines q.outcomes ++ d.front;
         does = ends_output a c e false q.read (texts p (start_world p) q.lines q.outcomes) d.front (stops_none a c q.read _ q.does) broken;
         tells = (
-          d.rest ++ status_line [] status.Memory,
-          ap (λ x. session_text start_world x os ++ status_line [] status.Memory) with_this
-              ∙ ap (λ x. x ++ status_line [] status.Memory) (texts_more p (start_world p) q.lines line q.outcomes o q.same ∙ ap (λ x. texts p (start_world p) q.lines q.outcomes ++ x) (sym (t.answers.says w q.represents) ∙ d.whole))
+          d.rest ++ last_line NoMemory,
+          ap (λ x. session_text start_world x os ++ last_line NoMemory) with_this
+              ∙ ap (λ x. x ++ last_line NoMemory) (texts_more p (start_world p) q.lines line q.outcomes o q.same ∙ ap (λ x. texts p (start_world p) q.lines q.outcomes ++ x) (sym (t.answers.says w q.represents) ∙ d.whole))
               ∙ simp append_assoc,
         );
         unanswered = line ∷ [];
@@ -241,7 +242,7 @@ module _ (a c e : Seen) (p : Program) (device : DeviceState) (line : List ℕ) (
       let os = q.outcomes ++ o ∷ [] in
       let is : session_of job.Run (Accepted p) q.read false ≡ with_lines p lines = q.session ∙ ap (λ l. with_lines p (q.lines ++ line ∷ l)) last in
       let text : t.text ≡ _ = t.answers.says w q.represents in
-      let answer = answers_to q.read false p lines os status.Done is (ends_done q.read q.few) in
+      let answer = answers_to q.read false p lines os Done is (ends_done q.read q.few) in
       record {
         read = q.read;
         few = omega (arith, q.few);
@@ -250,7 +251,7 @@ module _ (a c e : Seen) (p : Program) (device : DeviceState) (line : List ℕ) (
         judged = q.judged None;
         text = texts p (start_world p) lines os;
         does = stops_none a e q.read _ (says_more a c e q.read _ t.text _ q.does t.does (texts_more p (start_world p) q.lines line q.outcomes o q.same ∙ ap (λ x. texts p (start_world p) q.lines q.outcomes ++ x) (sym text)));
-        tells = (ap (λ (x : List ℕ × Status). x.0) answer ∙ append-nil _, ap (λ (x : List ℕ × Status). x.1) answer);
+        tells = (ap (λ (x : List ℕ × Ending). x.0) answer ∙ append-nil _, ap (λ (x : List ℕ × Ending). status_at x.1) answer);
         unanswered = [];
         whole = refl;
         calm = e;
@@ -302,7 +303,7 @@ far_on j status.TooLong v read o b c d h = h
 far_on j status.Line v read o b c d h = h
 
 -- a status that isn't 8 is told with all of the answers
-tells_all : (s : Status) (a : List ℕ × Status) (text : List ℕ) → (s ≡ status.Output → ⊥) → a.0 ≡ text → a.1 ≡ s → Tells a text s
+tells_all : (s : Status) (a : List ℕ × Ending) (text : List ℕ) → (s ≡ status.Output → ⊥) → a.0 ≡ text → status_at a.1 ≡ s → Tells a text s
 tells_all status.Output a text h p q = absurd (h refl)
 tells_all status.Done a text h p q = (p, q)
 tells_all status.Words a text h p q = (p, q)
@@ -341,39 +342,39 @@ closes_well status.Memory b c last h d = d
 closes_well status.TooLong b c last h d = d
 closes_well status.Line b c last h d = d
 
-only_last : (failed : Bool) (v : Verdict) (s r : Status) → (failed ≡ true → s ≡ status.Input) → (r ≡ s) ⊎ (r ≡ status.Output) → OnlyLastLine failed (status_line (refusal_text v) s) r
-only_last false v s r h e = tt
-only_last true v s r h (inl e) = (ap (status_line (refusal_text v)) (h refl), inl (e ∙ h refl))
-only_last true v s r h (inr e) = (ap (status_line (refusal_text v)) (h refl), inr e)
+only_last : (failed : Bool) (e : Ending) (r : Status) → (failed ≡ true → e ≡ InputFault) → (r ≡ status_at e) ⊎ (r ≡ status.Output) → OnlyLastLine failed (last_line e) r
+only_last false e r h k = tt
+only_last true e r h (inl k) = (ap last_line (h refl), inl (k ∙ ap status_at (h refl)))
+only_last true e r h (inr k) = (ap last_line (h refl), inr k)
 
-module _ (j : Job) (a b c : Seen) (s : Status) (n : Near j a b s) where
+module _ (j : Job) (a b c : Seen) (e : Ending) (n : Near j a b e) where
   -- the last line is said whole
-  near_said : (s ≡ status.Output → ⊥) → Does b c [] (status_line (refusal_text n.verdict) s) none → Runs j a c s
+  near_said : (status_at e ≡ status.Output → ⊥) → Does b c [] (last_line e) none → Runs j a c (status_at e)
   near_said h d = record {
     read = n.read;
     few = n.few;
     outcomes = n.outcomes;
     verdict = n.verdict;
     judged = n.judged;
-    text = n.text ++ status_line (refusal_text n.verdict) s;
-    does = subst (λ o. Does a c n.read (n.text ++ status_line (refusal_text n.verdict) s) (faults_of n.outcomes.input_failed o)) (sym (not_output s h)) (does_well a b c n.read n.text (status_line (refusal_text n.verdict) s) _ n.does d);
-    tells = tells_all s (answers j n.verdict start_world n.read n.outcomes) (n.text ++ status_line (refusal_text n.verdict) s) h (ap (λ (x : List ℕ × Status). x.0) n.answer) (ap (λ (x : List ℕ × Status). x.1) n.answer);
+    text = n.text ++ last_line e;
+    does = subst (λ o. Does a c n.read (n.text ++ last_line e) (faults_of n.outcomes.input_failed o)) (sym (not_output (status_at e) h)) (does_well a b c n.read n.text (last_line e) _ n.does d);
+    tells = tells_all (status_at e) (answers j n.verdict start_world n.read n.outcomes) (n.text ++ last_line e) h (ap (λ (x : List ℕ × Ending). x.0) n.answer) (ap (λ (x : List ℕ × Ending). status_at x.1) n.answer);
     unanswered = n.unanswered;
     whole = n.unsaid;
     calm = n.calm;
     ordered = n.ordered;
     halted = b;
     halts = n.halts;
-    last = status_line (refusal_text n.verdict) s;
-    closes = closes_well s b c _ h d;
-    only = only_last n.outcomes.input_failed n.verdict s s n.at_input (inl refl);
-    far = far_on j s n.verdict n.read n.outcomes b c d n.far;
+    last = last_line e;
+    closes = closes_well (status_at e) b c _ h d;
+    only = only_last n.outcomes.input_failed e (status_at e) n.at_input (inl refl);
+    far = far_on j (status_at e) n.verdict n.read n.outcomes b c d n.far;
   }
 
   -- the last line breaks off
-  near_broke : Breaks b c (status_line (refusal_text n.verdict) s) none → Runs j a c status.Output
+  near_broke : Breaks b c (last_line e) none → Runs j a c status.Output
   near_broke d =
-      let broken = breaks_does b c (status_line (refusal_text n.verdict) s) none d in
+      let broken = breaks_does b c (last_line e) none d in
       record {
         read = n.read;
         few = n.few;
@@ -382,21 +383,21 @@ module _ (j : Job) (a b c : Seen) (s : Status) (n : Near j a b s) where
         judged = n.judged;
         text = n.text ++ d.front;
         does = ends_output a b c n.outcomes.input_failed n.read n.text d.front n.does broken;
-        tells = (d.rest, ap (λ (x : List ℕ × Status). x.0) n.answer ∙ ap (λ t. n.text ++ t) d.whole ∙ sym (append_assoc n.text d.front d.rest));
+        tells = (d.rest, ap (λ (x : List ℕ × Ending). x.0) n.answer ∙ ap (λ t. n.text ++ t) d.whole ∙ sym (append_assoc n.text d.front d.rest));
         unanswered = n.unanswered;
-        whole = at_most s n.unanswered n.unsaid;
+        whole = at_most (status_at e) n.unanswered n.unsaid;
         calm = n.calm;
         ordered = n.ordered;
         halted = b;
         halts = n.halts;
-        last = status_line (refusal_text n.verdict) s;
+        last = last_line e;
         closes = d;
-        only = only_last n.outcomes.input_failed n.verdict s status.Output n.at_input (inr refl);
+        only = only_last n.outcomes.input_failed e status.Output n.at_input (inr refl);
         far = far_on j status.Output n.verdict n.read n.outcomes b c broken n.complete;
       }
 
   -- the last line is said, or breaks off
-  pub near_finish : (x : Status) → (s ≡ status.Output → ⊥) → Finishes b c (status_line (refusal_text n.verdict) s) s x → Runs j a c x
+  pub near_finish : (x : Status) → (status_at e ≡ status.Output → ⊥) → Finishes b c (last_line e) (status_at e) x → Runs j a c x
   near_finish status.Output h d = near_broke d
   near_finish status.Done h d = subst (Runs j a c) (sym d.0) (near_said h d.1)
   near_finish status.Words h d = subst (Runs j a c) (sym d.0) (near_said h d.1)

@@ -13,7 +13,8 @@ use Rattle.re_tool.specs.declared.words.Job.{Job}
 use Rattle.re_tool.specs.declared.status.Status.{Status}
 use Rattle.re_tool.specs.declared.status.Status.TheVariants as status
 use Rattle.re_tool.specs.Acts.{Act, Acts, Ordered, OrderedIn}
-use Rattle.re_tool.specs.Answers.{Session, first, others, line_text, line_after, status_line}
+use Rattle.re_tool.specs.Answers.{Session, first, others, line_text, line_after}
+use Rattle.re_tool.specs.Endings.{InputFault, last_line}
 use Rattle.re_tool.specs.Failures.{failed_take, failed_say, SaysLastLine, StopsAtFailures}
 use Rattle.re_tool.specs.Session.{Runs, Halts, Closes, OnlyLastLine, Finishes, Refuses}
 
@@ -198,7 +199,7 @@ module _ (old new : Seen) (s : Status) (c : Course old new s) where
   said_last false h o e closes = let no : [] ≡ failed_take ∷ [] = sym h ∙ e in absurd (cc)
   said_last true h o e (inl none) = by o.1
     where
-      says : said (c.after ++ c.fail) ≡ status_line [] status.Input
+      says : said (c.after ++ c.fail) ≡ last_line InputFault
       says = ap (λ l. said (c.after ++ l)) none.0 ∙ ap said (append-nil c.after) ∙ none.1 ∙ o.0
 
       by : (s ≡ status.Input) ⊎ (s ≡ status.Output) → SaysLastLine (c.after ++ c.fail) s

@@ -10,9 +10,9 @@ use Rattle.re_terms.specs.Worlds.{Outcome, start_world}
 use Rattle.re_tool.specs.declared.reader.Reader.{Reader}
 use Rattle.re_tool.specs.declared.words.Job.{Job}
 use Rattle.re_tool.specs.declared.words.Job.TheVariants as job
-use Rattle.re_tool.specs.declared.status.Status.{Status}
 use Rattle.re_tool.specs.Acts.{Acts, Ordered, OrderedIn}
 use Rattle.re_tool.specs.Answers.{Outcomes, Session, texts, lines_after, line_text, line_after, session_of, session_in, answers, done, close}
+use Rattle.re_tool.specs.Endings.{Ending, InputFault, status_at}
 use Rattle.re_tool.specs.Clipped.{Clipped}
 use Rattle.re_commands.specs.Commanding.{commanded}
 use Rattle.re_device.specs.Device.{DeviceState}
@@ -22,7 +22,6 @@ use Rattle.re_tool.specs.Part.{Part, divided, part_of, part_in, last_lines}
 use Rattle.re_tool.specs.Reads.{Reads, limit}
 use Rattle.re_tool.specs.Serving.{AnswersLine, Turns, TurnLost, TurnBreaks, Starts}
 use Rattle.re_tool.specs.Session.{Unanswered, Halts, AreComplete, ReadFar, part_lines, faults_of}
-use Rattle.re_tool.specs.declared.status.Status.TheVariants as status
 use Rattle.re_tool.specs.Verdict.{Verdict, Accepted, Decides, IsJudged}
 use Rattle.re_tool.proofs.Orders.{texts_more, after-append, acts_more, act_said, ordered_all}
 use Rattle.re_tool.proofs.Parts.{read_more, taken_more}
@@ -75,7 +74,7 @@ pub record Ready (a b : Seen) (p : Program) (device : DeviceState) (line : List 
   pub noise : Does mid b ahead [] none
 
 -- All is said but the last line.
-pub record Near (j : Job) (a b : Seen) (s : Status) : Type 0 where
+pub record Near (j : Job) (a b : Seen) (e : Ending) : Type 0 where
   pub read : List ℕ
   pub few : length read ≤ limit + 1
   pub outcomes : Outcomes
@@ -84,15 +83,15 @@ pub record Near (j : Job) (a b : Seen) (s : Status) : Type 0 where
   pub text : List ℕ
   pub does : Does a b read text (faults_of outcomes.input_failed false)
   pub unanswered : List (List ℕ)
-  pub unsaid : Unanswered s unanswered
+  pub unsaid : Unanswered (status_at e) unanswered
   -- no call failed up to this moment, and perhaps a `take` behind it
   pub calm : Seen
   pub ordered : OrderedIn a calm start_world (done j verdict read outcomes) outcomes.commands unanswered
   pub halts : Halts outcomes.input_failed calm b
-  pub at_input : outcomes.input_failed ≡ true → s ≡ status.Input
-  pub answer : answers j verdict start_world read outcomes ≡ close verdict s text
+  pub at_input : outcomes.input_failed ≡ true → e ≡ InputFault
+  pub answer : answers j verdict start_world read outcomes ≡ close e text
   pub complete : AreComplete j verdict read outcomes ⊎ IsAtEnd b
-  pub far : ReadFar j s verdict read outcomes b
+  pub far : ReadFar j (status_at e) verdict read outcomes b
 
 pub starts_so_far : (a b : Seen) (p : Program) (r : Reader) (device : DeviceState) → Starts a b p r device → SoFar a b p r device
 starts_so_far a b p r device s = record {

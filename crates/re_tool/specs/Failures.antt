@@ -8,7 +8,7 @@ use Rattle.re_outside.specs.declared.step.Step.{Step}
 use Rattle.re_outside.specs.declared.step.Step.TheVariants as step
 use Rattle.re_tool.specs.declared.status.Status.{Status}
 use Rattle.re_tool.specs.declared.status.Status.TheVariants as status
-use Rattle.re_tool.specs.Answers.{status_line}
+use Rattle.re_tool.specs.Endings.{InputFault, last_line}
 
 -- the step of a `take` that failed
 abbrev pub failed_take : Step
@@ -20,7 +20,7 @@ failed_say = step.Fail call.Say 0 0 0 (plain []) (plain [])
 
 -- these steps say the line of status 7 and no more, or the status is 8 and they say a front of it
 abbrev pub SaysLastLine : List Step → Status → Type 0
-SaysLastLine steps s = ((s ≡ status.Input) × (said steps ≡ status_line [] status.Input)) ⊎ ((s ≡ status.Output) × ((rest : List ℕ) × (status_line [] status.Input ≡ said steps ++ rest)))
+SaysLastLine steps s = ((s ≡ status.Input) × (said steps ≡ last_line InputFault)) ⊎ ((s ≡ status.Output) × ((rest : List ℕ) × (last_line InputFault ≡ said steps ++ rest)))
 
 -- Where the outside tells the steps and keeps those of calls that failed: behind a failed `take` only the line of status 7 is said, and behind a failed `say` nothing is done.
 pub record StopsAtFailures (old new : Seen) (s : Status) : Type 0 where

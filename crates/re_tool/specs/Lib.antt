@@ -4,6 +4,7 @@ pub mod Built
 pub mod Causes
 pub mod Clipped
 pub mod Device
+pub mod Endings
 pub mod Failures
 pub mod Faults
 pub mod Histories
@@ -12,6 +13,7 @@ pub mod Opening
 pub mod Part
 pub mod PartReading
 pub mod Reads
+pub mod Refusals
 pub mod Serving
 pub mod Session
 pub mod Status

@@ -11,7 +11,8 @@ use Rattle.re_tool.specs.Acts.{OrderedIn}
 use Rattle.re_tool.specs.Lines.{split}
 use Rattle.re_tool.specs.Part.{Part, divided, part_of}
 use Rattle.re_tool.specs.Reads.{limit}
-use Rattle.re_tool.specs.Answers.{Outcomes, Session, answers, done, status_line}
+use Rattle.re_tool.specs.Answers.{Outcomes, Session, answers, done}
+use Rattle.re_tool.specs.Endings.{Ending, BadWords, InputFault, NoMemory, status_at, last_line}
 use Rattle.re_tool.specs.Verdict.{Verdict, IsJudged}
 
 abbrev pub is_output : Status → Bool
@@ -19,9 +20,9 @@ is_output status.Output = true
 is_output s = false
 
 -- All of the answers are said and the status is theirs, or a front of them where a `say` failed.
-abbrev pub Tells : List ℕ × Status → List ℕ → Status → Type 0
+abbrev pub Tells : List ℕ × Ending → List ℕ → Status → Type 0
 Tells a text status.Output = (rest : List ℕ) × (a.0 ≡ text ++ rest)
-Tells a text s = (a.0 ≡ text) × (a.1 ≡ s)
+Tells a text s = (a.0 ≡ text) × (status_at a.1 ≡ s)
 
 abbrev pub one_if : Bool → ℕ
 one_if true = 1
@@ -86,7 +87,7 @@ Closes halted new last s = Does halted new [] last none
 -- behind a failed `take` the line of status 7 is all that is said
 abbrev pub OnlyLastLine : Bool → List ℕ → Status → Type 0
 OnlyLastLine false last s = Unit {0}
-OnlyLastLine true last s = (last ≡ status_line [] status.Input) × ((s ≡ status.Input) ⊎ (s ≡ status.Output))
+OnlyLastLine true last s = (last ≡ last_line InputFault) × ((s ≡ status.Input) ⊎ (s ≡ status.Output))
 
 pub record Runs (j : Job) (old new : Seen) (s : Status) : Type 0 where
   -- the bytes that were taken, at most one over the limit
@@ -121,4 +122,4 @@ Finishes old new line s r = (r ≡ s) × Does old new [] line none
 
 -- The words were refused, or memory ran out for them.
 abbrev pub Refuses : Seen → Seen → Status → Type 0
-Refuses old new s = Finishes old new (status_line [] status.Words) status.Words s ⊎ Finishes old new (status_line [] status.Memory) status.Memory s
+Refuses old new s = Finishes old new (last_line BadWords) status.Words s ⊎ Finishes old new (last_line NoMemory) status.Memory s
