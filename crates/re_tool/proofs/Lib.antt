@@ -17,6 +17,7 @@ pub mod Starting
 pub mod Settling
 pub mod Devices
 pub mod Histories
+pub mod LimitCodes
 pub mod Lines
 pub mod Meanings
 pub mod VarWords

@@ -1,6 +1,6 @@
 //! What follows from the definitions of the answers, for every program and every session.
 ghost use Rattle.std.specs.List.{flat_map};
-ghost use Rattle.std.specs.Prelude.{◌≡◌, ℕ, List, [], ◌∷◌, ◌++◌, ◌≢◌, ◌↔◌, slice_get, Ok, Some, None};
+ghost use Rattle.std.specs.Prelude.{◌≡◌, ℕ, List, [], ◌∷◌, ◌++◌, ◌≢◌, ◌↔◌, ◌≤◌, true, false, length, slice_get, Ok, Some, None};
 ghost use Rattle.re_terms.specs.declared.expr.Expr.{Expr};
 ghost use Rattle.re_terms.specs.declared.program.Decl.{Decl};
 ghost use Rattle.re_terms.specs.declared.program.Program.{Program};
@@ -10,11 +10,14 @@ ghost use Rattle.re_terms.specs.Meaning.{meaning};
 ghost use Rattle.re_terms.specs.Programs.{IsProgram};
 ghost use Rattle.re_terms.specs.Runs.{plain_view};
 ghost use Rattle.re_terms.specs.SignalWords.{names_environment, signal_word};
-ghost use Rattle.re_terms.specs.Worlds.{World, Outcome, Fine, Memory, Refused, start_world, world_state};
+ghost use Rattle.re_terms.specs.declared.entry.Admitted.{Admitted};
+ghost use Rattle.re_terms.specs.Limits.{OperationFault, updates_fault};
+ghost use Rattle.re_terms.specs.Shapes.{shape_of};
+ghost use Rattle.re_terms.specs.Worlds.{World, Outcome, Fine, Memory, Refused, is_full, last_number, limit_code, start_world, world_state};
 ghost use Rattle.re_commands.specs.Commanding.{commanded};
 ghost use Rattle.re_print.specs.Canonical.{word_text};
 ghost use Rattle.re_tool.specs.Answers.{line_answer, line_text, lines_after, fault_code};
-ghost use Rattle.re_tool.specs.Histories.{last_set, taken};
+ghost use Rattle.re_tool.specs.Histories.{IsTurn, last_set, taken};
 ghost use Rattle.re_tool.specs.Lines.{split, ended, IsPlain, ArePlain};
 ghost use Rattle.re_tool.specs.Part.{divided, Undivided, IsFirstSeparator};
 
@@ -62,4 +65,17 @@ pub fn lines_law()
     ensures plain { (bytes : List ℕ) → ArePlain (split bytes).0 × IsPlain (split bytes).1 }
     ensures separator { (lines front back : List (List ℕ)) → divided lines ≡ Some (front, back) → IsFirstSeparator lines front back }
     ensures no_separator { (lines : List (List ℕ)) → divided lines ≡ None → Undivided lines }
+{}
+
+/// Want of memory aside, a turn is refused with the code 29 exactly where the device takes no more, and with the code of
+/// a limit exactly where it takes more and an operation of the turn would pass that limit first. No other line is refused
+/// with the codes 29 to 32.
+pub fn limit_law()
+    ensures full { (p : Program) (w : World) (line : List ℕ) (device : ℕ) (turn : Admitted) → commanded p line ≡ Ok (Some (Command.Turn device turn)) →
+        (line_answer p w (commanded p line) Fine ≡ Some (Refused 29)) ↔ (is_full (length w.settled) (last_number w) ≡ true) }
+    ensures limits { (p : Program) (w : World) (line : List ℕ) (device : ℕ) (turn : Admitted) (f : OperationFault) → commanded p line ≡ Ok (Some (Command.Turn device turn)) →
+        (line_answer p w (commanded p line) Fine ≡ Some (Refused (limit_code f)))
+        ↔ ((is_full (length w.settled) (last_number w) ≡ false) × (updates_fault (shape_of p) 0 turn.turn.ops.items (world_state p w).taken ≡ Some f)) }
+    ensures only { (p : Program) (w : World) (line : List ℕ) (o : Outcome) (code : ℕ) → 29 ≤ code → code ≤ 32 →
+        line_answer p w (commanded p line) o ≡ Some (Refused code) → IsTurn (commanded p line) o }
 {}
