@@ -1,8 +1,8 @@
 -- A text that is said line by line.
 use Rattle.std.proofs.Common.{arith, ◌≡◌, ◌≤◌, ◌+◌, ◌++◌, [], ℕ, List, take, drop, sym, ◌∙◌, ap, subst, append_assoc}
 use Rattle.std.proofs.lemmas.List.{take-append-drop, take-take, drop-take}
-use Rattle.re_outside.specs.Outside.{Seen, Does, Breaks, none, output_fault, plus}
-use Rattle.re_outside.proofs.Does.{does_well, does_behind}
+use Rattle.re_outside.specs.Outside.{Seen, Does, Breaks, none}
+use Rattle.re_outside.proofs.Does.{does_well}
 
 take_two : (n m : ℕ) (text : List ℕ) → take n text ++ take m (drop n text) ≡ take (n + m) text
 take_two n m text =
@@ -21,7 +21,9 @@ line_broke a b c n k text p q = record {
   front = take n text ++ q.front;
   rest = q.rest ++ drop k (drop n text);
   whole = whole_text;
-  does = does_behind a b c [] (take n text) q.front none (plus none output_fault) p q.does;
+  before = q.before;
+  does = does_well a b q.before [] (take n text) q.front none p q.does;
+  failed = q.failed;
 }
   where
     whole_text : text ≡ (take n text ++ q.front) ++ (q.rest ++ drop k (drop n text))

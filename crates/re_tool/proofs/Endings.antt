@@ -5,7 +5,8 @@ use Rattle.std.specs.List.{flat_map}
 use Rattle.std.proofs.lemmas.Bool.{lt-ltb, le-ltb}
 use Rattle.std.proofs.lemmas.List.{append-nil, take_at, length_push, map-append}
 use Rattle.re_outside.specs.Outside.{Seen, Does, Breaks, IsAtEnd, Faults, none, input_fault, output_fault, plus}
-use Rattle.re_outside.proofs.Does.{does_behind, at_end}
+use Rattle.re_outside.proofs.Does.{does-nil, does_well, breaks_does, at_end}
+use Rattle.re_tool.proofs.Ends.{stops_none, stops_input, ends_output}
 use Rattle.re_terms.specs.declared.program.Program.{Program}
 use Rattle.re_terms.specs.Worlds.{Outcome, start_world}
 use Rattle.re_tool.specs.declared.reader.Reader.{Reader}
@@ -14,71 +15,49 @@ use Rattle.re_tool.specs.declared.words.Job.TheVariants as job
 use Rattle.re_tool.specs.declared.status.Status.{Status}
 use Rattle.re_tool.specs.declared.status.Status.TheVariants as status
 use Rattle.re_tool.specs.Acts.{Ordered, OrderedIn}
-use Rattle.re_tool.specs.Answers.{Outcomes, Session, texts, lines_after, session_of, session_in, answers, done, close, status_line, status_in, ending, session_text, first_lines}
+use Rattle.re_tool.specs.Answers.{Outcomes, Session, texts, lines_after, session_of, session_in, answers, done, close, ending_in, reading_end, session_text, first_lines}
+use Rattle.re_tool.specs.Endings.{Ending, Done, InputFault, NoMemory, InputTooLong, status_at, last_line}
 use Rattle.re_tool.specs.Clipped.{Clipped}
 use Rattle.re_device.specs.Device.{DeviceState}
 use Rattle.re_tool.specs.Lines.{split, ended, without_return}
 use Rattle.re_tool.specs.Part.{Part, part_of, last_lines}
-use Rattle.re_tool.specs.Reads.{Reads, Takes, limit}
-use Rattle.re_tool.specs.Serving.{Turns, TurnBreaks}
-use Rattle.re_tool.specs.Session.{Runs, Tells, Unanswered, Finishes, ReadFar, HasSeparator, lines_of, part_lines, faults_of, is_output}
-use Rattle.re_tool.specs.Verdict.{Verdict, Accepted, refusal_text}
-use Rattle.re_tool.proofs.Orders.{texts_more, order_more, ordered_all, ordered_on, ordered_line, ordered_outcome}
-use Rattle.re_tool.proofs.Parts.{read_more, taken_more, does_more}
+use Rattle.re_tool.specs.Reads.{Reads, ReadFails, Takes, limit}
+use Rattle.re_tool.specs.Serving.{Turns, TurnLost, TurnBreaks}
+use Rattle.re_tool.specs.Session.{Runs, Tells, Unanswered, Closes, OnlyLastLine, Finishes, ReadFar, HasSeparator, lines_of, part_lines, faults_of, is_output}
+use Rattle.re_tool.specs.Verdict.{Verdict, Accepted}
+use Rattle.re_tool.proofs.Orders.{texts_more, texts_front, acts_more, act_said, ordered_all, ordered_but_one}
+use Rattle.re_tool.proofs.Parts.{read_more, taken_more}
+use Rattle.re_tool.proofs.PassedLines.{does_more}
 use Rattle.re_tool.proofs.Sessions.{SoFar, Ready, Near, with_lines, says_more, part_at, part_cut, judged_at, session_at, near_ordered, size_more, part_last}
 use Rattle.re_tool.proofs.Splits.{split_lines, split_last}
 
 -- an accepted program doesn't end the run
-runs_on : (p : Program) (part : Option Part) (s : Status) → status_in job.Run (Accepted p) part s ≡ s
+runs_on : (p : Program) (part : Option Part) (e : Ending) → ending_in job.Run (Accepted p) part e ≡ e
 runs_on p None s = refl
 runs_on p (Some part) s = refl
 
 -- what a run says of a session that it came to the end of
-pub answers_to : (read : List ℕ) (failed : Bool) (p : Program) (lines : List (List ℕ)) (os : List Outcome) (s : Status) → session_of job.Run (Accepted p) read failed ≡ with_lines p lines → ending read failed ≡ s
-    → answers job.Run (Accepted p) read record { commands = os; input_failed = failed; stopped = None } ≡ close (Accepted p) s (texts p (start_world p) lines os)
+pub answers_to : (read : List ℕ) (failed : Bool) (p : Program) (lines : List (List ℕ)) (os : List Outcome) (s : Ending) → session_of job.Run (Accepted p) read failed ≡ with_lines p lines → reading_end read failed ≡ s
+    → answers job.Run (Accepted p) start_world read record { commands = os; input_failed = failed; stopped = None } ≡ close s (texts p (start_world p) lines os)
 answers_to read failed p lines os s is e =
-    ap (λ x. close (Accepted p) x (session_text (session_of job.Run (Accepted p) read failed) os)) (runs_on p (part_of read failed) (ending read failed) ∙ e)
-    ∙ ap (λ x. close (Accepted p) s (session_text x os)) is
+    ap (λ x. close x (session_text start_world (session_of job.Run (Accepted p) read failed) os)) (runs_on p (part_of read failed) (reading_end read failed) ∙ e)
+    ∙ ap (λ x. close s (session_text start_world x os)) is
 
-pub ends_input : (read : List ℕ) → length read ≤ limit → ending read true ≡ status.Input
+pub ends_input : (read : List ℕ) → length read ≤ limit → reading_end read true ≡ InputFault
 ends_input read h = rw (le-ltb limit (length read) h) refl
 
-pub ends_done : (read : List ℕ) → length read ≤ limit → ending read false ≡ status.Done
+pub ends_done : (read : List ℕ) → length read ≤ limit → reading_end read false ≡ Done
 ends_done read h = rw (le-ltb limit (length read) h) refl
 
-pub ends_long : (read : List ℕ) (failed : Bool) → limit < length read → ending read failed ≡ status.TooLong
+pub ends_long : (read : List ℕ) (failed : Bool) → limit < length read → reading_end read failed ≡ InputTooLong
 ends_long read failed h = rw (lt-ltb limit (length read) h) refl
 
 at_least : (xs ys : List (List ℕ)) → length xs ≤ length (xs ++ ys)
 at_least xs ys = omega (arith, length-append xs ys)
 
 module _ (a b c : Seen) (p : Program) (r r' : Reader) (device : DeviceState) (line' : Clipped) (most : ℕ) (s : SoFar a b p r device) where
-  -- the input failed
-  pub near_failed : Reads r r' line' most b c [] input_fault → r'.taken ≤ limit → r'.chunk ≡ [] → Near job.Run a c status.Input
-  near_failed d few empty =
-      let lines = map without_return s.raws in
-      let read = s.read ++ d.bytes in
-      let short : length read ≤ limit = omega (arith, size_more a b c p r r' device line' most s d) in
-      let part = part_last a b c p r r' device line' most s d few empty true in
-      let is : session_of job.Run (Accepted p) read true ≡ with_lines p lines = session_at p _ _ _ part ∙ ap (with_lines p) (append-nil lines) in
-      record {
-        read = read;
-        few = omega arith;
-        outcomes = record { commands = s.outcomes; input_failed = true; stopped = None };
-        verdict = Accepted p;
-        judged = judged_at p _ _ _ None part s.program;
-        text = texts p (start_world p) lines s.outcomes;
-        does = does_more a b c s.read d.bytes _ input_fault s.does d.does;
-        unanswered = [];
-        unsaid = refl;
-        ordered = subst (λ x. OrderedIn a c x s.outcomes []) (sym is) (near_ordered a b c p r r' device line' most s d.does);
-        answer = answers_to read true p lines s.outcomes status.Input is (ends_input read short);
-        complete = inl (omega (arith, ap (λ x. length (lines_of (session_in (Accepted p) x))) part, ap (λ x. length (part_lines x)) part));
-        far = tt;
-      }
-
   -- too much input came
-  pub near_too_long : Reads r r' line' most b c [] none → r'.taken ≡ limit + 1 → length r'.chunk ≡ 1 → Near job.Run a c status.TooLong
+  pub near_too_long : Reads r r' line' most b c [] → r'.taken ≡ limit + 1 → length r'.chunk ≡ 1 → Near job.Run a c InputTooLong
   near_too_long d long one =
       let lines = map without_return s.raws in
       let read = s.read ++ d.bytes in
@@ -97,17 +76,20 @@ module _ (a b c : Seen) (p : Program) (r r' : Reader) (device : DeviceState) (li
         verdict = Accepted p;
         judged = judged_at p _ _ _ None (cut false) s.program;
         text = texts p (start_world p) lines s.outcomes;
-        does = does_more a b c s.read d.bytes _ none s.does d.does;
+        does = stops_none a c read _ (does_more a b c s.read d.bytes _ s.does d.does);
         unanswered = [];
         unsaid = refl;
-        ordered = subst (λ x. OrderedIn a c x s.outcomes []) (sym is) (near_ordered a b c p r r' device line' most s d.does);
-        answer = answers_to read false p lines s.outcomes status.TooLong is (ends_long read false over);
+        calm = c;
+        halts = refl;
+        at_input = λ h. absurd (cc);
+        ordered = subst (λ x. OrderedIn a c start_world x s.outcomes []) (sym is) (near_ordered a b c p r device s d.bytes d.does);
+        answer = answers_to read false p lines s.outcomes InputTooLong is (ends_long read false over);
         complete = inl (omega (arith, ap (λ x. length (lines_of (session_in (Accepted p) x))) (cut false), ap (λ x. length (part_lines x)) (cut true)));
         far = tt;
       }
 
   -- memory ran out while a line was read
-  pub near_halted : Takes r r' b c → r'.taken ≤ limit → Near job.Run a c status.Memory
+  pub near_halted : Takes r r' b c → r'.taken ≤ limit → Near job.Run a c NoMemory
   near_halted d few =
       let lines = map without_return s.raws in
       let n = length lines in
@@ -127,14 +109,45 @@ module _ (a b c : Seen) (p : Program) (r r' : Reader) (device : DeviceState) (li
         verdict = Accepted p;
         judged = judged_at p _ _ _ (Some (n, true)) (part false) s.program;
         text = texts p (start_world p) lines s.outcomes;
-        does = does_more a b c s.read d.bytes _ none s.does d.does;
+        does = stops_none a c read _ (does_more a b c s.read d.bytes _ s.does d.does);
         unanswered = [];
         unsaid = omega arith;
-        ordered = subst (λ x. OrderedIn a c x s.outcomes []) (sym is) (near_ordered a b c p r r' device line' most s d.does);
-        answer = ap (λ x. close (Accepted p) status.Memory (session_text x s.outcomes)) is;
+        calm = c;
+        halts = refl;
+        at_input = λ h. absurd (cc);
+        ordered = subst (λ x. OrderedIn a c start_world x s.outcomes []) (sym is) (near_ordered a b c p r device s d.bytes d.does);
+        answer = ap (λ x. close NoMemory (session_text start_world x s.outcomes)) is;
         complete = inl (omega (arith, ap (λ x. length (lines_of x)) is, ap (λ x. length (part_lines x)) (part true), at_least lines (map without_return (split rest).0 ++ [])));
         far = inl (omega (arith, ap (λ x. length (lines_of x)) is, ap (λ x. length (part_lines x)) (part true), at_least lines (map without_return (split rest).0 ++ [])));
       }
+
+-- the input failed
+pub near_failed : (a b c : Seen) (p : Program) (r r' : Reader) (device : DeviceState) (line' : Clipped) (most : ℕ) (s : SoFar a b p r device) → ReadFails r r' line' most b c → r'.taken ≤ limit → r'.chunk ≡ [] → Near job.Run a c InputFault
+near_failed a b c p r r' device line' most s f few empty =
+    let d = f.reads in
+    let lines = map without_return s.raws in
+    let read = s.read ++ d.bytes in
+    let short : length read ≤ limit = omega (arith, size_more a b f.mid p r r' device line' most s d) in
+    let part = part_last a b f.mid p r r' device line' most s d few empty true in
+    let is : session_of job.Run (Accepted p) read true ≡ with_lines p lines = session_at p _ _ _ part ∙ ap (with_lines p) (append-nil lines) in
+    record {
+      read = read;
+      few = omega arith;
+      outcomes = record { commands = s.outcomes; input_failed = true; stopped = None };
+      verdict = Accepted p;
+      judged = judged_at p _ _ _ None part s.program;
+      text = texts p (start_world p) lines s.outcomes;
+      does = stops_input a f.mid c read (texts p (start_world p) lines s.outcomes) (does_more a b f.mid s.read d.bytes _ s.does d.does) f.fails;
+      unanswered = [];
+      unsaid = refl;
+      calm = f.mid;
+      ordered = subst (λ x. OrderedIn a f.mid start_world x s.outcomes []) (sym is) (near_ordered a b f.mid p r device s d.bytes d.does);
+      halts = f.fails;
+      at_input = λ h. refl;
+      answer = answers_to read true p lines s.outcomes InputFault is (ends_input read short);
+      complete = inl (omega (arith, ap (λ x. length (lines_of (session_in (Accepted p) x))) part, ap (λ x. length (part_lines x)) part));
+      far = tt;
+    }
 
 at_front : (xs : List (List ℕ)) (x : List ℕ) (ys : List (List ℕ)) → take (length xs + 1) (xs ++ x ∷ ys) ≡ xs ++ x ∷ []
 at_front xs x ys = ap (take (length xs + 1)) (sym (append_assoc xs (x ∷ []) ys)) ∙ take_at (xs ++ x ∷ []) ys (length xs + 1) (length_push xs x)
@@ -148,11 +161,9 @@ module _ (a c e : Seen) (p : Program) (device : DeviceState) (line : List ℕ) (
   without_this : first_lines (length q.lines + 1 - 1) (session_of job.Run (Accepted p) q.read false) ≡ with_lines p q.lines
   without_this = ap (first_lines (length q.lines + 1 - 1)) q.session ∙ ap (with_lines p) (take_at q.lines (line ∷ q.more) (length q.lines + 1 - 1) (omega arith))
 
-  ordered_with : (os : List Outcome) {bytes text : List ℕ} {f : Faults} → Does c e bytes text f → os ≡ q.outcomes → Ordered a e p (q.lines ++ line ∷ []) os (line ∷ [])
-  ordered_with os d h =
-      subst (λ x. Ordered a e p (q.lines ++ line ∷ []) x (line ∷ [])) (sym h)
-      (ordered_line a e p q.lines line q.outcomes
-      (ordered_on a c e p q.lines [] q.outcomes _ _ _ (ordered_on a q.mid c p q.lines [] q.outcomes _ _ _ (ordered_all a q.mid p q.lines q.outcomes q.order) q.noise.moves) d.moves))
+  -- all lines but this one are answered, and this one was done
+  ordered_with : (o : Outcome) → Does c e [] [] none → Ordered a e p (start_world p) (q.lines ++ line ∷ []) (q.outcomes ++ o ∷ []) (line ∷ [])
+  ordered_with o d = ordered_but_one a q.mid c e p (start_world p) q.lines line q.outcomes o q.ahead q.same q.acts q.noise d
 
   complete_with : {text : List ℕ} {f : Faults} (n : ℕ) → n ≡ length q.lines + 1 → Does c e [] text f → (length (lines_of (first_lines n (session_of job.Run (Accepted p) q.read false))) ≤ length (part_lines (part_of q.read true))) ⊎ IsAtEnd e
   complete_with {text} {f} n h d = cases q.complete
@@ -165,22 +176,28 @@ module _ (a c e : Seen) (p : Program) (device : DeviceState) (line : List ℕ) (
       cases (inr end) = inr (at_end c e text f d end)
 
   -- memory ran out for the answer
-  pub near_memory : Does c e [] [] none → Near job.Run a e status.Memory
-  near_memory d = record {
-    read = q.read;
-    few = omega (arith, q.few);
-    outcomes = record { commands = q.outcomes; input_failed = false; stopped = Some (length q.lines + 1, false) };
-    verdict = Accepted p;
-    judged = q.judged (Some (length q.lines + 1, false));
-    text = texts p (start_world p) q.lines q.outcomes;
-    does = says_more a c e q.read _ [] _ q.does d (sym (append-nil _));
-    unanswered = line ∷ [];
-    unsaid = omega arith;
-    ordered = subst (λ x. OrderedIn a e x q.outcomes (line ∷ [])) (sym with_this) (ordered_with q.outcomes d refl);
-    answer = ap (λ x. close (Accepted p) status.Memory (session_text x q.outcomes)) without_this;
-    complete = complete_with (length q.lines + 1) refl d;
-    far = complete_with (length q.lines + 1) refl d;
-  }
+  pub near_memory : (device' : DeviceState) → TurnLost p line device device' c e → Near job.Run a e NoMemory
+  near_memory device' t =
+      let os = q.outcomes ++ t.answers.outcome ∷ [] in
+      let d = t.does in
+      record {
+        read = q.read;
+        few = omega (arith, q.few);
+        outcomes = record { commands = os; input_failed = false; stopped = Some (length q.lines + 1, false) };
+        verdict = Accepted p;
+        judged = q.judged (Some (length q.lines + 1, false));
+        text = texts p (start_world p) q.lines q.outcomes;
+        does = stops_none a e q.read _ (says_more a c e q.read _ [] _ q.does d (sym (append-nil _)));
+        unanswered = line ∷ [];
+        unsaid = omega arith;
+        calm = e;
+        ordered = subst (λ x. OrderedIn a e start_world x os (line ∷ [])) (sym with_this) (ordered_with t.answers.outcome d);
+        halts = refl;
+        at_input = λ h. absurd (cc);
+        answer = ap (λ x. close NoMemory (session_text start_world x os)) without_this ∙ ap (close NoMemory) (texts_front p (start_world p) q.lines q.outcomes t.answers.outcome q.same);
+        complete = complete_with (length q.lines + 1) refl d;
+        far = complete_with (length q.lines + 1) refl d;
+      }
 
   -- an answer broke off
   pub runs_output : (device' : DeviceState) → TurnBreaks p line device device' c e → Runs job.Run a e status.Output
@@ -188,24 +205,32 @@ module _ (a c e : Seen) (p : Program) (device : DeviceState) (line : List ℕ) (
       let w = lines_after p (start_world p) q.lines q.outcomes in
       let o = t.answers.outcome in
       let d = t.breaks in
+      let os = q.outcomes ++ o ∷ [] in
+      let broken = breaks_does c e t.text none d in
       record {
         read = q.read;
         few = omega (arith, q.few);
-        outcomes = record { commands = q.outcomes ++ o ∷ []; input_failed = false; stopped = Some (length q.lines + 1, true) };
+        outcomes = record { commands = os; input_failed = false; stopped = Some (length q.lines + 1, true) };
         verdict = Accepted p;
         judged = q.judged (Some (length q.lines + 1, true));
         text = texts p (start_world p) q.lines q.outcomes ++ d.front;
-        does = does_behind a c e q.read (texts p (start_world p) q.lines q.outcomes) d.front none (plus none output_fault) q.does d.does;
+        does = ends_output a c e false q.read (texts p (start_world p) q.lines q.outcomes) d.front (stops_none a c q.read _ q.does) broken;
         tells = (
-          d.rest ++ status_line [] status.Memory,
-          ap (λ x. session_text x (q.outcomes ++ o ∷ []) ++ status_line [] status.Memory) with_this
-              ∙ ap (λ x. x ++ status_line [] status.Memory) (texts_more p (start_world p) q.lines line q.outcomes o q.same ∙ ap (λ x. texts p (start_world p) q.lines q.outcomes ++ x) (sym (t.answers.says w q.represents) ∙ d.whole))
+          d.rest ++ last_line NoMemory,
+          ap (λ x. session_text start_world x os ++ last_line NoMemory) with_this
+              ∙ ap (λ x. x ++ last_line NoMemory) (texts_more p (start_world p) q.lines line q.outcomes o q.same ∙ ap (λ x. texts p (start_world p) q.lines q.outcomes ++ x) (sym (t.answers.says w q.represents) ∙ d.whole))
               ∙ simp append_assoc,
         );
         unanswered = line ∷ [];
         whole = omega arith;
-        ordered = subst (λ x. OrderedIn a e x (q.outcomes ++ o ∷ []) (line ∷ [])) (sym with_this) (ordered_outcome a e p (q.lines ++ line ∷ []) (line ∷ []) q.outcomes o (ordered_with q.outcomes d.does refl));
-        far = complete_with (length q.lines + 1) refl d.does;
+        calm = c;
+        ordered = subst (λ x. OrderedIn a c start_world x os (line ∷ [])) (sym with_this) (ordered_but_one a q.mid c c p (start_world p) q.lines line q.outcomes o q.ahead q.same q.acts q.noise (does-nil c));
+        halted = c;
+        halts = refl;
+        last = t.text;
+        closes = d;
+        only = tt;
+        far = complete_with (length q.lines + 1) refl broken;
       }
 
   -- the last line is done
@@ -217,7 +242,7 @@ module _ (a c e : Seen) (p : Program) (device : DeviceState) (line : List ℕ) (
       let os = q.outcomes ++ o ∷ [] in
       let is : session_of job.Run (Accepted p) q.read false ≡ with_lines p lines = q.session ∙ ap (λ l. with_lines p (q.lines ++ line ∷ l)) last in
       let text : t.text ≡ _ = t.answers.says w q.represents in
-      let answer = answers_to q.read false p lines os status.Done is (ends_done q.read q.few) in
+      let answer = answers_to q.read false p lines os Done is (ends_done q.read q.few) in
       record {
         read = q.read;
         few = omega (arith, q.few);
@@ -225,11 +250,19 @@ module _ (a c e : Seen) (p : Program) (device : DeviceState) (line : List ℕ) (
         verdict = Accepted p;
         judged = q.judged None;
         text = texts p (start_world p) lines os;
-        does = says_more a c e q.read _ t.text _ q.does t.does (texts_more p (start_world p) q.lines line q.outcomes o q.same ∙ ap (λ x. texts p (start_world p) q.lines q.outcomes ++ x) (sym text));
-        tells = (ap (λ (x : List ℕ × Status). x.0) answer ∙ append-nil _, ap (λ (x : List ℕ × Status). x.1) answer);
+        does = stops_none a e q.read _ (says_more a c e q.read _ t.text _ q.does t.does (texts_more p (start_world p) q.lines line q.outcomes o q.same ∙ ap (λ x. texts p (start_world p) q.lines q.outcomes ++ x) (sym text)));
+        tells = (ap (λ (x : List ℕ × Ending). x.0) answer ∙ append-nil _, ap (λ (x : List ℕ × Ending). status_at x.1) answer);
         unanswered = [];
         whole = refl;
-        ordered = subst (λ x. OrderedIn a e x os []) (sym is) (ordered_all a e p lines os (order_more a q.mid c e p q.lines line q.ahead t.text q.outcomes o q.same q.order q.noise t.act text));
+        calm = e;
+        ordered = subst (λ x. OrderedIn a e start_world x os []) (sym is)
+            (ordered_all a e e p (start_world p) lines os [] (length_push q.outcomes o ∙ ap (λ n. n + 1) q.same ∙ sym (length_push q.lines line))
+            (acts_more p (start_world p) q.lines line q.outcomes o a q.mid e q.same q.acts (act_said q.mid c e q.ahead t.text _ q.noise t.does text)) (does-nil e));
+        halted = e;
+        halts = refl;
+        last = [];
+        closes = does-nil e;
+        only = tt;
         far = at_end c e _ _ t.does end;
       }
 
@@ -248,18 +281,6 @@ at_most status.Disk lines h = none_is_few lines h
 at_most status.Input lines h = none_is_few lines h
 at_most status.TooLong lines h = none_is_few lines h
 at_most status.Line lines h = none_is_few lines h
-
-ordered_in_on : (a b c : Seen) (x : Option Session) (os : List Outcome) (others : List (List ℕ)) {r text : List ℕ} {f : Faults} → OrderedIn a b x os others → Does b c r text f → OrderedIn a c x os others
-ordered_in_on a b c None os others o d = o
-ordered_in_on a b c (Some s) os others o d = ordered_on a b c s.program s.lines others os _ _ _ o d.moves
-
-broken_plus : (f : Bool) → plus (faults_of f false) (plus none output_fault) ≡ faults_of f true
-broken_plus true = refl
-broken_plus false = refl
-
-well_plus : (f : Bool) → plus (faults_of f false) none ≡ faults_of f false
-well_plus true = refl
-well_plus false = refl
 
 pub separated_on : (read : List ℕ) (b c : Seen) {text : List ℕ} {f : Faults} → Does b c [] text f → HasSeparator read ⊎ IsAtEnd b → HasSeparator read ⊎ IsAtEnd c
 separated_on read b c d (inl h) = inl h
@@ -282,7 +303,7 @@ far_on j status.TooLong v read o b c d h = h
 far_on j status.Line v read o b c d h = h
 
 -- a status that isn't 8 is told with all of the answers
-tells_all : (s : Status) (a : List ℕ × Status) (text : List ℕ) → (s ≡ status.Output → ⊥) → a.0 ≡ text → a.1 ≡ s → Tells a text s
+tells_all : (s : Status) (a : List ℕ × Ending) (text : List ℕ) → (s ≡ status.Output → ⊥) → a.0 ≡ text → status_at a.1 ≡ s → Tells a text s
 tells_all status.Output a text h p q = absurd (h refl)
 tells_all status.Done a text h p q = (p, q)
 tells_all status.Words a text h p q = (p, q)
@@ -308,43 +329,75 @@ not_output status.Memory h = refl
 not_output status.TooLong h = refl
 not_output status.Line h = refl
 
-module _ (j : Job) (a b c : Seen) (s : Status) (n : Near j a b s) where
+closes_well : (s : Status) (b c : Seen) (last : List ℕ) → (s ≡ status.Output → ⊥) → Does b c [] last none → Closes b c last s
+closes_well status.Output b c last h d = absurd (h refl)
+closes_well status.Done b c last h d = d
+closes_well status.Words b c last h d = d
+closes_well status.Program b c last h d = d
+closes_well status.Store b c last h d = d
+closes_well status.OtherProgram b c last h d = d
+closes_well status.Disk b c last h d = d
+closes_well status.Input b c last h d = d
+closes_well status.Memory b c last h d = d
+closes_well status.TooLong b c last h d = d
+closes_well status.Line b c last h d = d
+
+only_last : (failed : Bool) (e : Ending) (r : Status) → (failed ≡ true → e ≡ InputFault) → (r ≡ status_at e) ⊎ (r ≡ status.Output) → OnlyLastLine failed (last_line e) r
+only_last false e r h k = tt
+only_last true e r h (inl k) = (ap last_line (h refl), inl (k ∙ ap status_at (h refl)))
+only_last true e r h (inr k) = (ap last_line (h refl), inr k)
+
+module _ (j : Job) (a b c : Seen) (e : Ending) (n : Near j a b e) where
   -- the last line is said whole
-  near_said : (s ≡ status.Output → ⊥) → Does b c [] (status_line (refusal_text n.verdict) s) none → Runs j a c s
+  near_said : (status_at e ≡ status.Output → ⊥) → Does b c [] (last_line e) none → Runs j a c (status_at e)
   near_said h d = record {
     read = n.read;
     few = n.few;
     outcomes = n.outcomes;
     verdict = n.verdict;
     judged = n.judged;
-    text = n.text ++ status_line (refusal_text n.verdict) s;
-    does = subst (Does a c n.read (n.text ++ status_line (refusal_text n.verdict) s)) (well_plus n.outcomes.input_failed ∙ ap (faults_of n.outcomes.input_failed) (sym (not_output s h))) (does_behind a b c n.read n.text (status_line (refusal_text n.verdict) s) _ none n.does d);
-    tells = tells_all s (answers j n.verdict n.read n.outcomes) (n.text ++ status_line (refusal_text n.verdict) s) h (ap (λ (x : List ℕ × Status). x.0) n.answer) (ap (λ (x : List ℕ × Status). x.1) n.answer);
+    text = n.text ++ last_line e;
+    does = subst (λ o. Does a c n.read (n.text ++ last_line e) (faults_of n.outcomes.input_failed o)) (sym (not_output (status_at e) h)) (does_well a b c n.read n.text (last_line e) _ n.does d);
+    tells = tells_all (status_at e) (answers j n.verdict start_world n.read n.outcomes) (n.text ++ last_line e) h (ap (λ (x : List ℕ × Ending). x.0) n.answer) (ap (λ (x : List ℕ × Ending). status_at x.1) n.answer);
     unanswered = n.unanswered;
     whole = n.unsaid;
-    ordered = ordered_in_on a b c (done j n.verdict n.read n.outcomes) n.outcomes.commands n.unanswered n.ordered d;
-    far = far_on j s n.verdict n.read n.outcomes b c d n.far;
+    calm = n.calm;
+    ordered = n.ordered;
+    halted = b;
+    halts = n.halts;
+    last = last_line e;
+    closes = closes_well (status_at e) b c _ h d;
+    only = only_last n.outcomes.input_failed e (status_at e) n.at_input (inl refl);
+    far = far_on j (status_at e) n.verdict n.read n.outcomes b c d n.far;
   }
 
   -- the last line breaks off
-  near_broke : Breaks b c (status_line (refusal_text n.verdict) s) none → Runs j a c status.Output
-  near_broke d = record {
-    read = n.read;
-    few = n.few;
-    outcomes = n.outcomes;
-    verdict = n.verdict;
-    judged = n.judged;
-    text = n.text ++ d.front;
-    does = subst (Does a c n.read (n.text ++ d.front)) (broken_plus n.outcomes.input_failed) (does_behind a b c n.read n.text d.front _ _ n.does d.does);
-    tells = (d.rest, ap (λ (x : List ℕ × Status). x.0) n.answer ∙ ap (λ t. n.text ++ t) d.whole ∙ sym (append_assoc n.text d.front d.rest));
-    unanswered = n.unanswered;
-    whole = at_most s n.unanswered n.unsaid;
-    ordered = ordered_in_on a b c (done j n.verdict n.read n.outcomes) n.outcomes.commands n.unanswered n.ordered d.does;
-    far = far_on j status.Output n.verdict n.read n.outcomes b c d.does n.complete;
-  }
+  near_broke : Breaks b c (last_line e) none → Runs j a c status.Output
+  near_broke d =
+      let broken = breaks_does b c (last_line e) none d in
+      record {
+        read = n.read;
+        few = n.few;
+        outcomes = n.outcomes;
+        verdict = n.verdict;
+        judged = n.judged;
+        text = n.text ++ d.front;
+        does = ends_output a b c n.outcomes.input_failed n.read n.text d.front n.does broken;
+        tells = (d.rest, ap (λ (x : List ℕ × Ending). x.0) n.answer ∙ ap (λ t. n.text ++ t) d.whole ∙ sym (append_assoc n.text d.front d.rest));
+        unanswered = n.unanswered;
+        whole = at_most (status_at e) n.unanswered n.unsaid;
+        calm = n.calm;
+        ordered = n.ordered;
+        halted = b;
+        halts = n.halts;
+        last = last_line e;
+        closes = d;
+        only = only_last n.outcomes.input_failed e status.Output n.at_input (inr refl);
+        far = far_on j status.Output n.verdict n.read n.outcomes b c broken n.complete;
+      }
 
   -- the last line is said, or breaks off
-  pub near_finish : (x : Status) → (s ≡ status.Output → ⊥) → Finishes b c (status_line (refusal_text n.verdict) s) s x → Runs j a c x
+  pub near_finish : (x : Status) → (status_at e ≡ status.Output → ⊥) → Finishes b c (last_line e) (status_at e) x → Runs j a c x
   near_finish status.Output h d = near_broke d
   near_finish status.Done h d = subst (Runs j a c) (sym d.0) (near_said h d.1)
   near_finish status.Words h d = subst (Runs j a c) (sym d.0) (near_said h d.1)

@@ -7,6 +7,8 @@ pub mod Programs
 pub mod Parts
 pub mod Refusals
 pub mod Endings
+pub mod Ends
+pub mod Failing
 pub mod PassedLines
 pub mod Serves
 pub mod Sessions
@@ -15,6 +17,7 @@ pub mod Starting
 pub mod Settling
 pub mod Devices
 pub mod Histories
+pub mod LimitCodes
 pub mod Lines
 pub mod Meanings
 pub mod VarWords

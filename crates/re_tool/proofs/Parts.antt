@@ -2,16 +2,17 @@
 use Rattle.std.proofs.Common.{arith, ◌≡◌, ◌≤◌, ◌<◌, ◌+◌, ◌-◌, ◌++◌, ◌∷◌, [], ℕ, List, length, take, sym, ◌∙◌, ap, subst, refl, append_assoc, Bool, true, false, length-append}
 use Rattle.std.specs.List.{flat_map}
 use Rattle.std.proofs.lemmas.List.{append-nil, take_at}
-use Rattle.re_outside.specs.Outside.{Seen, Does, IsAtEnd, Faults, none, input_fault}
-use Rattle.re_outside.proofs.Does.{does-nil, does_read, none-plus}
+use Rattle.re_outside.specs.Outside.{Seen, Does, IsAtEnd, none}
+use Rattle.re_outside.proofs.Does.{does-nil}
 use Rattle.re_tool.specs.declared.reader.Reader.{Reader}
 use Rattle.re_tool.specs.Clipped.{Clipped, clipped}
 use Rattle.re_tool.specs.Lines.{split, ended, ArePlain, without_return}
-use Rattle.re_tool.specs.Part.{is_separator, part_of, part_in}
-use Rattle.re_tool.specs.Reads.{Reads, Takes, limit}
+use Rattle.re_tool.specs.Part.{Undivided, is_separator, part_of, part_in}
+use Rattle.re_tool.specs.Reads.{Reads, ReadFails, Takes, limit}
 use Rattle.re_tool.specs.PartReading.{kept_text, Divides, ReadsAll, PartFails, PartTooLong, PartStops}
 use Rattle.re_tool.proofs.Clipping.{take-take-append, take-cut_within, separator-kept, separator-kept_last}
-use Rattle.re_tool.proofs.Splits.{plain_more, split_last, flat_more, Undivided, undivided_more, divided_at, divided_none, part_short, part_long}
+use Rattle.re_tool.proofs.PassedLines.{does_more}
+use Rattle.re_tool.proofs.Splits.{plain_more, split_last, flat_more, undivided_more, divided_at, divided_none, part_short, part_long}
 
 -- What was read so far, between two lines of the program part.
 pub record PartSoFar (a b : Seen) (r : Reader) (text line : Clipped) : Type 0 where
@@ -31,10 +32,6 @@ read_more front read chunk bytes line tail p q = ap (λ l. l ++ bytes) p ∙ app
 
 pub taken_more : (before taken : ℕ) (read bytes : List ℕ) → before ≡ length read → taken ≡ before + length bytes → taken ≡ length (read ++ bytes)
 taken_more before taken read bytes p q = q ∙ ap (λ n. n + length bytes) p ∙ sym (length-append read bytes)
-
--- bytes are read behind what was read, and then a call may fail
-pub does_more : (a b c : Seen) (read bytes text : List ℕ) (f : Faults) → Does a b read text none → Does b c bytes [] f → Does a c (read ++ bytes) text f
-does_more a b c read bytes text f p q = subst (Does a c (read ++ bytes) text) (none-plus f) (does_read a b c read bytes text none f p q)
 
 pub part_start : (s : Seen) (r : Reader) (text line : Clipped) → r ≡ record { chunk = []; taken = 0 } → text ≡ clipped 65537 [] → line ≡ clipped 65538 [] → PartSoFar s s r text line
 part_start s r text line e t l = record {
@@ -69,17 +66,17 @@ kept_last lines line text text' line' p q h =
     (take-take-append 65537 F (take 65538 line) ∙ ap (λ l. take 65537 (F ++ l)) (sym (append-nil (take 65538 line))) ∙ take-cut_within 65537 65538 F line [] (omega arith) ∙ ap (λ l. take 65537 (F ++ l)) (append-nil line))
 
 module _ (a b c : Seen) (r r' : Reader) (text line line' : Clipped) (s : PartSoFar a b r text line) where
-  keeps_line : {end : List ℕ} {f : Faults} → (d : Reads r r' line' line.most b c end f) → line' ≡ clipped 65538 d.line
+  keeps_line : {end : List ℕ} → (d : Reads r r' line' line.most b c end) → line' ≡ clipped 65538 d.line
   keeps_line d = d.keeps ∙ ap (λ n. clipped n d.line) s.most
 
-  line_most : {end : List ℕ} {f : Faults} → Reads r r' line' line.most b c end f → line'.most ≡ 65538
+  line_most : {end : List ℕ} → Reads r r' line' line.most b c end → line'.most ≡ 65538
   line_most d = ap (λ (l : Clipped). l.most) (keeps_line d)
 
-  read_line : (d : Reads r r' line' line.most b c (10 ∷ []) none) → s.read ++ d.bytes ≡ flat_map ended (s.lines ++ d.line ∷ []) ++ r'.chunk
+  read_line : (d : Reads r r' line' line.most b c (10 ∷ [])) → s.read ++ d.bytes ≡ flat_map ended (s.lines ++ d.line ∷ []) ++ r'.chunk
   read_line d = read_more (flat_map ended s.lines) s.read r.chunk d.bytes d.line (10 ∷ r'.chunk) s.whole d.whole ∙ flat_more s.lines d.line r'.chunk
 
   -- a line of the program part is passed
-  pub part_more : (text' : Clipped) → Reads r r' line' line.most b c (10 ∷ []) none → r'.taken ≤ limit → is_separator (without_return line'.items) ≡ false → text' ≡ clipped text.most (text.items ++ ended line'.items)
+  pub part_more : (text' : Clipped) → Reads r r' line' line.most b c (10 ∷ []) → r'.taken ≤ limit → is_separator (without_return line'.items) ≡ false → text' ≡ clipped text.most (text.items ++ ended line'.items)
       → PartSoFar a c r' text' line'
   part_more text' d few not h =
       let keeps = keeps_line d in
@@ -91,13 +88,13 @@ module _ (a b c : Seen) (r r' : Reader) (text line line' : Clipped) (s : PartSoF
         whole = read_line d;
         taken = taken_more r.taken r'.taken s.read d.bytes s.taken d.taken;
         few = few;
-        does = does_more a b c s.read d.bytes [] none s.does d.does;
+        does = does_more a b c s.read d.bytes [] s.does d.does;
         keeps = kept_more s.lines d.line text text' line' s.keeps keeps h;
         most = line_most d;
       }
 
   -- the separator is passed
-  pub part_divides : Reads r r' line' line.most b c (10 ∷ []) none → r'.taken ≤ limit → is_separator (without_return line'.items) ≡ true → Divides r' text a c
+  pub part_divides : Reads r r' line' line.most b c (10 ∷ []) → r'.taken ≤ limit → is_separator (without_return line'.items) ≡ true → Divides r' text a c
   part_divides d few is =
       let keeps = keeps_line d in
       record {
@@ -109,25 +106,25 @@ module _ (a b c : Seen) (r r' : Reader) (text line line' : Clipped) (s : PartSoF
         whole = read_line d;
         taken = taken_more r.taken r'.taken s.read d.bytes s.taken d.taken;
         few = few;
-        does = does_more a b c s.read d.bytes [] none s.does d.does;
+        does = does_more a b c s.read d.bytes [] s.does d.does;
         keeps = s.keeps;
       }
 
-  read_last : {f : Faults} → (d : Reads r r' line' line.most b c [] f) → r'.chunk ≡ [] → s.read ++ d.bytes ≡ flat_map ended s.lines ++ d.line
+  read_last : (d : Reads r r' line' line.most b c []) → r'.chunk ≡ [] → s.read ++ d.bytes ≡ flat_map ended s.lines ++ d.line
   read_last d empty =
       read_more (flat_map ended s.lines) s.read r.chunk d.bytes d.line r'.chunk s.whole d.whole ∙ ap (λ l. flat_map ended s.lines ++ (d.line ++ l)) empty ∙ ap (λ l. flat_map ended s.lines ++ l) (append-nil d.line)
 
-  split_read : {f : Faults} → (d : Reads r r' line' line.most b c [] f) → r'.chunk ≡ [] → split (s.read ++ d.bytes) ≡ (s.lines, d.line)
+  split_read : (d : Reads r r' line' line.most b c []) → r'.chunk ≡ [] → split (s.read ++ d.bytes) ≡ (s.lines, d.line)
   split_read d empty = ap split (read_last d empty) ∙ split_last s.lines d.line s.plain d.plain
 
-  read_few : {f : Faults} {end : List ℕ} → (d : Reads r r' line' line.most b c end f) → r'.taken ≤ limit → length (s.read ++ d.bytes) ≤ limit
+  read_few : {end : List ℕ} → (d : Reads r r' line' line.most b c end) → r'.taken ≤ limit → length (s.read ++ d.bytes) ≤ limit
   read_few d few = omega (arith, taken_more r.taken r'.taken s.read d.bytes s.taken d.taken)
 
-  part_at_end : {f : Faults} → (d : Reads r r' line' line.most b c [] f) → r'.taken ≤ limit → r'.chunk ≡ [] → (failed : Bool) → part_of (s.read ++ d.bytes) failed ≡ part_in (s.lines, d.line) failed
+  part_at_end : (d : Reads r r' line' line.most b c []) → r'.taken ≤ limit → r'.chunk ≡ [] → (failed : Bool) → part_of (s.read ++ d.bytes) failed ≡ part_in (s.lines, d.line) failed
   part_at_end d few empty failed = part_short (s.read ++ d.bytes) failed (read_few d few) ∙ ap (λ p. part_in p failed) (split_read d empty)
 
   -- the last line is a separator without its LF
-  pub part_ends : Reads r r' line' line.most b c [] none → r'.taken ≤ limit → r'.chunk ≡ [] → IsAtEnd c → is_separator line'.items ≡ true → ReadsAll r' text a c
+  pub part_ends : Reads r r' line' line.most b c [] → r'.taken ≤ limit → r'.chunk ≡ [] → IsAtEnd c → is_separator line'.items ≡ true → ReadsAll r' text a c
   part_ends d few empty end is =
       let keeps = keeps_line d in
       let here : is_separator d.line ≡ true = sym (separator-kept_last 65538 d.line (omega arith)) ∙ ap (λ (l : Clipped). is_separator l.items) (sym keeps) ∙ is in
@@ -138,13 +135,13 @@ module _ (a b c : Seen) (r r' : Reader) (text line line' : Clipped) (s : PartSoF
         empty = empty;
         part = flat_map ended s.lines;
         is_part = part_at_end d few empty false ∙ rw (divided_none s.lines s.undivided, here) refl;
-        does = does_more a b c s.read d.bytes [] none s.does d.does;
+        does = does_more a b c s.read d.bytes [] s.does d.does;
         keeps = s.keeps;
         end = end;
       }
 
   -- the last line is of the program part
-  pub part_ends_within : (text' : Clipped) → Reads r r' line' line.most b c [] none → r'.taken ≤ limit → r'.chunk ≡ [] → IsAtEnd c → is_separator line'.items ≡ false → text' ≡ clipped text.most (text.items ++ line'.items) → ReadsAll r' text' a c
+  pub part_ends_within : (text' : Clipped) → Reads r r' line' line.most b c [] → r'.taken ≤ limit → r'.chunk ≡ [] → IsAtEnd c → is_separator line'.items ≡ false → text' ≡ clipped text.most (text.items ++ line'.items) → ReadsAll r' text' a c
   part_ends_within text' d few empty end not h =
       let keeps = keeps_line d in
       let here : is_separator d.line ≡ false = sym (separator-kept_last 65538 d.line (omega arith)) ∙ ap (λ (l : Clipped). is_separator l.items) (sym keeps) ∙ not in
@@ -155,20 +152,12 @@ module _ (a b c : Seen) (r r' : Reader) (text line line' : Clipped) (s : PartSoF
         empty = empty;
         part = flat_map ended s.lines ++ d.line;
         is_part = part_at_end d few empty false ∙ rw (divided_none s.lines s.undivided, here) refl;
-        does = does_more a b c s.read d.bytes [] none s.does d.does;
+        does = does_more a b c s.read d.bytes [] s.does d.does;
         keeps = kept_last s.lines d.line text text' line' s.keeps keeps h;
         end = end;
       }
 
-  pub part_fails : Reads r r' line' line.most b c [] input_fault → r'.taken ≤ limit → r'.chunk ≡ [] → PartFails a c
-  part_fails d few empty = record {
-    read = s.read ++ d.bytes;
-    few = read_few d few;
-    is_none = part_at_end d few empty true ∙ rw (divided_none s.lines s.undivided) refl;
-    does = does_more a b c s.read d.bytes [] input_fault s.does d.does;
-  }
-
-  pub part_too_long : Reads r r' line' line.most b c [] none → r'.taken ≡ limit + 1 → length r'.chunk ≡ 1 → PartTooLong a c
+  pub part_too_long : Reads r r' line' line.most b c [] → r'.taken ≡ limit + 1 → length r'.chunk ≡ 1 → PartTooLong a c
   part_too_long d long one =
       let read = s.read ++ d.bytes in
       let whole : read ≡ (flat_map ended s.lines ++ d.line) ++ r'.chunk = read_more (flat_map ended s.lines) s.read r.chunk d.bytes d.line r'.chunk s.whole d.whole ∙ sym (append_assoc (flat_map ended s.lines) d.line r'.chunk) in
@@ -181,20 +170,32 @@ module _ (a b c : Seen) (r r' : Reader) (text line line' : Clipped) (s : PartSoF
         read = read;
         long = sym taken ∙ long;
         is_none = part_long read false over ∙ ap (λ p. part_in p true) parts ∙ rw (divided_none s.lines s.undivided) refl;
-        does = does_more a b c s.read d.bytes [] none s.does d.does;
+        does = does_more a b c s.read d.bytes [] s.does d.does;
       }
 
   pub part_stops : Takes r r' b c → r'.taken ≤ limit → PartStops a c
   part_stops d few = record {
     read = s.read ++ d.bytes;
     few = omega (arith, taken_more r.taken r'.taken s.read d.bytes s.taken d.taken);
-    does = does_more a b c s.read d.bytes [] none s.does d.does;
+    does = does_more a b c s.read d.bytes [] s.does d.does;
   }
 
-  pub part_stops_behind : {end : List ℕ} → Reads r r' line' line.most b c end none → r'.taken ≤ limit → PartStops a c
+  pub part_stops_behind : {end : List ℕ} → Reads r r' line' line.most b c end → r'.taken ≤ limit → PartStops a c
   part_stops_behind d few = part_stops (record { bytes = d.bytes; does = d.does; taken = d.taken }) few
 
+-- the input failed before the program part ended
+pub part_fails : (a b c : Seen) (r r' : Reader) (text line line' : Clipped) (s : PartSoFar a b r text line) → ReadFails r r' line' line.most b c → r'.taken ≤ limit → r'.chunk ≡ [] → PartFails a c
+unfolding part_at_end read_few
+part_fails a b c r r' text line line' s d few empty = record {
+  read = s.read ++ d.reads.bytes;
+  few = read_few a b d.mid r r' text line line' s d.reads few;
+  is_none = part_at_end a b d.mid r r' text line line' s d.reads few empty true ∙ rw (divided_none s.lines s.undivided) refl;
+  mid = d.mid;
+  does = does_more a b d.mid s.read d.reads.bytes [] s.does d.reads.does;
+  fails = d.fails;
+}
+
 -- each whole line takes from what may still be read
-pub line_smaller : (a b : Seen) (r r' : Reader) (line' : Clipped) (most : ℕ) → Reads r r' line' most a b (10 ∷ []) none → r'.taken ≤ limit → (limit - r'.taken) + length r'.chunk < (limit - r.taken) + length r.chunk
+pub line_smaller : (a b : Seen) (r r' : Reader) (line' : Clipped) (most : ℕ) → Reads r r' line' most a b (10 ∷ []) → r'.taken ≤ limit → (limit - r'.taken) + length r'.chunk < (limit - r.taken) + length r.chunk
 line_smaller a b r r' line' most d few =
     omega (arith, d.taken, ap length d.whole, length-append r.chunk d.bytes, length-append d.line (10 ∷ r'.chunk))

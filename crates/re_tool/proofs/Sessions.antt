@@ -3,16 +3,16 @@ use Rattle.std.proofs.Common.{arith, ◌≡◌, ◌≤◌, ◌<◌, ◌+◌, ◌
 use Rattle.std.specs.Prelude.{map}
 use Rattle.std.specs.List.{flat_map}
 use Rattle.std.proofs.lemmas.List.{append-nil, length_push, map-append}
-use Rattle.re_outside.specs.Outside.{Seen, Does, IsAtEnd, Faults, none}
+use Rattle.re_outside.specs.Outside.{Seen, Does, IsAtEnd, none}
 use Rattle.re_outside.proofs.Does.{does-nil, does_well, does_as}
 use Rattle.re_terms.specs.declared.program.Program.{Program}
 use Rattle.re_terms.specs.Worlds.{Outcome, start_world}
 use Rattle.re_tool.specs.declared.reader.Reader.{Reader}
 use Rattle.re_tool.specs.declared.words.Job.{Job}
 use Rattle.re_tool.specs.declared.words.Job.TheVariants as job
-use Rattle.re_tool.specs.declared.status.Status.{Status}
-use Rattle.re_tool.specs.Acts.{Order, Ordered, OrderedIn}
+use Rattle.re_tool.specs.Acts.{Acts, Ordered, OrderedIn}
 use Rattle.re_tool.specs.Answers.{Outcomes, Session, texts, lines_after, line_text, line_after, session_of, session_in, answers, done, close}
+use Rattle.re_tool.specs.Endings.{Ending, InputFault, status_at}
 use Rattle.re_tool.specs.Clipped.{Clipped}
 use Rattle.re_commands.specs.Commanding.{commanded}
 use Rattle.re_device.specs.Device.{DeviceState}
@@ -20,11 +20,12 @@ use Rattle.re_tool.specs.Device.{Represents}
 use Rattle.re_tool.specs.Lines.{split, ended, IsPlain, ArePlain, without_return}
 use Rattle.re_tool.specs.Part.{Part, divided, part_of, part_in, last_lines}
 use Rattle.re_tool.specs.Reads.{Reads, limit}
-use Rattle.re_tool.specs.Serving.{AnswersLine, Turns, TurnBreaks, Starts}
-use Rattle.re_tool.specs.Session.{Unanswered, AreComplete, ReadFar, part_lines, faults_of}
+use Rattle.re_tool.specs.Serving.{AnswersLine, Turns, TurnLost, TurnBreaks, Starts}
+use Rattle.re_tool.specs.Session.{Unanswered, Halts, AreComplete, ReadFar, part_lines, faults_of}
 use Rattle.re_tool.specs.Verdict.{Verdict, Accepted, Decides, IsJudged}
-use Rattle.re_tool.proofs.Orders.{texts_more, after-append, order_nil, order_more, ordered_all, ordered_on}
-use Rattle.re_tool.proofs.Parts.{read_more, taken_more, does_more}
+use Rattle.re_tool.proofs.Orders.{texts_more, after-append, acts_more, act_said, ordered_all}
+use Rattle.re_tool.proofs.Parts.{read_more, taken_more}
+use Rattle.re_tool.proofs.PassedLines.{does_more}
 use Rattle.re_tool.proofs.Splits.{plain_more, split_lines, split_last, flat_more, part_short, part_long}
 
 -- the session of a program and of lines
@@ -47,9 +48,9 @@ pub record SoFar (a b : Seen) (p : Program) (r : Reader) (device : DeviceState) 
   pub few : r.taken ≤ limit
   pub does : Does a b read (texts p (start_world p) (map without_return raws) outcomes) none
   pub represents : Represents p (lines_after p (start_world p) (map without_return raws) outcomes) device
-  -- the last answer's step, and what was read behind it
+  -- the moment behind the last answer, and what was read behind it
   pub mid : Seen
-  pub order : Order a mid p (map without_return raws) outcomes
+  pub acts : Acts p (start_world p) (map without_return raws) outcomes a mid
   pub ahead : List ℕ
   pub noise : Does mid b ahead [] none
 
@@ -68,12 +69,12 @@ pub record Ready (a b : Seen) (p : Program) (device : DeviceState) (line : List 
   pub does : Does a b read (texts p (start_world p) lines outcomes) none
   pub represents : Represents p (lines_after p (start_world p) lines outcomes) device
   pub mid : Seen
-  pub order : Order a mid p lines outcomes
+  pub acts : Acts p (start_world p) lines outcomes a mid
   pub ahead : List ℕ
   pub noise : Does mid b ahead [] none
 
 -- All is said but the last line.
-pub record Near (j : Job) (a b : Seen) (s : Status) : Type 0 where
+pub record Near (j : Job) (a b : Seen) (e : Ending) : Type 0 where
   pub read : List ℕ
   pub few : length read ≤ limit + 1
   pub outcomes : Outcomes
@@ -82,11 +83,15 @@ pub record Near (j : Job) (a b : Seen) (s : Status) : Type 0 where
   pub text : List ℕ
   pub does : Does a b read text (faults_of outcomes.input_failed false)
   pub unanswered : List (List ℕ)
-  pub unsaid : Unanswered s unanswered
-  pub ordered : OrderedIn a b (done j verdict read outcomes) outcomes.commands unanswered
-  pub answer : answers j verdict read outcomes ≡ close verdict s text
+  pub unsaid : Unanswered (status_at e) unanswered
+  -- no call failed up to this moment, and perhaps a `take` behind it
+  pub calm : Seen
+  pub ordered : OrderedIn a calm start_world (done j verdict read outcomes) outcomes.commands unanswered
+  pub halts : Halts outcomes.input_failed calm b
+  pub at_input : outcomes.input_failed ≡ true → e ≡ InputFault
+  pub answer : answers j verdict start_world read outcomes ≡ close e text
   pub complete : AreComplete j verdict read outcomes ⊎ IsAtEnd b
-  pub far : ReadFar j s verdict read outcomes b
+  pub far : ReadFar j (status_at e) verdict read outcomes b
 
 pub starts_so_far : (a b : Seen) (p : Program) (r : Reader) (device : DeviceState) → Starts a b p r device → SoFar a b p r device
 starts_so_far a b p r device s = record {
@@ -105,7 +110,7 @@ starts_so_far a b p r device s = record {
   does = s.does;
   represents = s.represents;
   mid = a;
-  order = order_nil a p;
+  acts = refl;
   ahead = s.read;
   noise = s.does;
 }
@@ -146,10 +151,13 @@ answers_as p line line' before after text e q = record {
 }
 
 pub turns_as : (p : Program) (line line' : List ℕ) (before after : DeviceState) (a b : Seen) → commanded p line ≡ commanded p line' → Turns p line before after a b → Turns p line' before after a b
-turns_as p line line' before after a b e q = record { text = q.text; answers = answers_as p line line' before after q.text e q.answers; act = q.act; does = q.does }
+turns_as p line line' before after a b e q = record { text = q.text; answers = answers_as p line line' before after q.text e q.answers; does = q.does }
 
 pub breaks_as : (p : Program) (line line' : List ℕ) (before after : DeviceState) (a b : Seen) → commanded p line ≡ commanded p line' → TurnBreaks p line before after a b → TurnBreaks p line' before after a b
 breaks_as p line line' before after a b e q = record { text = q.text; answers = answers_as p line line' before after q.text e q.answers; breaks = q.breaks }
+
+pub lost_as : (p : Program) (line line' : List ℕ) (before after : DeviceState) (a b : Seen) → commanded p line ≡ commanded p line' → TurnLost p line before after a b → TurnLost p line' before after a b
+lost_as p line line' before after a b e q = record { text = q.text; answers = answers_as p line line' before after q.text e q.answers; does = q.does }
 
 -- a text more is said
 pub says_more : (a b c : Seen) (read text more text' : List ℕ) → Does a b read text none → Does b c [] more none → text' ≡ text ++ more → Does a c read text' none
@@ -171,20 +179,20 @@ module _ (a b c : Seen) (p : Program) (r r' : Reader) (device : DeviceState) (li
   lines_so_far : List (List ℕ)
   lines_so_far = map without_return s.raws
 
-  pub size_more : {end : List ℕ} {f : Faults} → (d : Reads r r' line' most b c end f) → r'.taken ≡ length (s.read ++ d.bytes)
+  pub size_more : {end : List ℕ} → (d : Reads r r' line' most b c end) → r'.taken ≡ length (s.read ++ d.bytes)
   size_more d = taken_more r.taken r'.taken s.read d.bytes s.taken d.taken
 
-  whole_line : (d : Reads r r' line' most b c (10 ∷ []) none) → s.read ++ d.bytes ≡ flat_map ended (s.head ++ s.raws) ++ (d.line ++ 10 ∷ r'.chunk)
+  whole_line : (d : Reads r r' line' most b c (10 ∷ [])) → s.read ++ d.bytes ≡ flat_map ended (s.head ++ s.raws) ++ (d.line ++ 10 ∷ r'.chunk)
   whole_line d = read_more (flat_map ended (s.head ++ s.raws)) s.read r.chunk d.bytes d.line (10 ∷ r'.chunk) s.whole d.whole
 
-  pub part_line : (d : Reads r r' line' most b c (10 ∷ []) none) → r'.taken ≤ limit → (failed : Bool)
+  pub part_line : (d : Reads r r' line' most b c (10 ∷ [])) → r'.taken ≤ limit → (failed : Bool)
       → part_of (s.read ++ d.bytes) failed ≡ Some (record { text = flat_map ended s.front; lines = map without_return s.raws ++ without_return d.line ∷ (map without_return (split r'.chunk).0 ++ last_lines failed (split r'.chunk).1) })
   part_line d few failed =
       part_at (s.read ++ d.bytes) failed s.front s.head (s.raws ++ d.line ∷ (split r'.chunk).0) (split r'.chunk).1 (omega (arith, size_more d)) (parts_line (s.read ++ d.bytes) s.head s.raws d.line r'.chunk s.plain d.plain (whole_line d)) s.divides
       ∙ ap (λ l. let x : Part = record { text = flat_map ended s.front; lines = l } in Some x) (lines_at s.raws d.line (split r'.chunk).0 (last_lines failed (split r'.chunk).1))
 
   -- a whole line is in hand
-  pub ready_line : (d : Reads r r' line' most b c (10 ∷ []) none) → r'.taken ≤ limit → Ready a c p device (without_return d.line)
+  pub ready_line : (d : Reads r r' line' most b c (10 ∷ [])) → r'.taken ≤ limit → Ready a c p device (without_return d.line)
   ready_line d few = record {
     lines = map without_return s.raws;
     outcomes = s.outcomes;
@@ -195,24 +203,24 @@ module _ (a b c : Seen) (p : Program) (r r' : Reader) (device : DeviceState) (li
     judged = λ stopped. judged_at p _ _ _ stopped (part_line d few false) s.program;
     few = omega (arith, size_more d);
     complete = inl (rw (part_line d few true) (longer (map without_return s.raws) (without_return d.line) (map without_return (split r'.chunk).0 ++ [])));
-    does = does_more a b c s.read d.bytes _ none s.does d.does;
+    does = does_more a b c s.read d.bytes _ s.does d.does;
     represents = s.represents;
     mid = s.mid;
-    order = s.order;
+    acts = s.acts;
     ahead = s.ahead ++ d.bytes;
-    noise = does_more s.mid b c s.ahead d.bytes [] none s.noise d.does;
+    noise = does_more s.mid b c s.ahead d.bytes [] s.noise d.does;
   }
 
-  whole_last : {f : Faults} → (d : Reads r r' line' most b c [] f) → r'.chunk ≡ [] → s.read ++ d.bytes ≡ flat_map ended (s.head ++ s.raws) ++ d.line
+  whole_last : (d : Reads r r' line' most b c []) → r'.chunk ≡ [] → s.read ++ d.bytes ≡ flat_map ended (s.head ++ s.raws) ++ d.line
   whole_last d empty =
       read_more (flat_map ended (s.head ++ s.raws)) s.read r.chunk d.bytes d.line r'.chunk s.whole d.whole ∙ ap (λ l. flat_map ended (s.head ++ s.raws) ++ (d.line ++ l)) empty ∙ ap (λ l. flat_map ended (s.head ++ s.raws) ++ l) (append-nil d.line)
 
-  pub part_last : {f : Faults} → (d : Reads r r' line' most b c [] f) → r'.taken ≤ limit → r'.chunk ≡ [] → (failed : Bool) → part_of (s.read ++ d.bytes) failed ≡ Some (record { text = flat_map ended s.front; lines = map without_return s.raws ++ last_lines failed d.line })
+  pub part_last : (d : Reads r r' line' most b c []) → r'.taken ≤ limit → r'.chunk ≡ [] → (failed : Bool) → part_of (s.read ++ d.bytes) failed ≡ Some (record { text = flat_map ended s.front; lines = map without_return s.raws ++ last_lines failed d.line })
   part_last d few empty failed =
       part_at (s.read ++ d.bytes) failed s.front s.head s.raws d.line (omega (arith, size_more d)) (ap split (whole_last d empty) ∙ split_last (s.head ++ s.raws) d.line s.plain d.plain) s.divides
 
   -- the last line is in hand
-  pub ready_end : (d : Reads r r' line' most b c [] none) → r'.taken ≤ limit → r'.chunk ≡ [] → IsAtEnd c → (q : Ready a c p device d.line) × (q.more ≡ [])
+  pub ready_end : (d : Reads r r' line' most b c []) → r'.taken ≤ limit → r'.chunk ≡ [] → IsAtEnd c → (q : Ready a c p device d.line) × (q.more ≡ [])
   ready_end d few empty end = (
     record {
       lines = map without_return s.raws;
@@ -224,18 +232,18 @@ module _ (a b c : Seen) (p : Program) (r r' : Reader) (device : DeviceState) (li
       judged = λ stopped. judged_at p _ _ _ stopped (part_last d few empty false) s.program;
       few = omega (arith, size_more d);
       complete = inr end;
-      does = does_more a b c s.read d.bytes _ none s.does d.does;
+      does = does_more a b c s.read d.bytes _ s.does d.does;
       represents = s.represents;
       mid = s.mid;
-      order = s.order;
+      acts = s.acts;
       ahead = s.ahead ++ d.bytes;
-      noise = does_more s.mid b c s.ahead d.bytes [] none s.noise d.does;
+      noise = does_more s.mid b c s.ahead d.bytes [] s.noise d.does;
     },
     refl,
   )
 
   -- a whole line is done
-  pub so_far_more : (e : Seen) (device' : DeviceState) → (d : Reads r r' line' most b c (10 ∷ []) none) → r'.taken ≤ limit → Turns p (without_return d.line) device device' c e → SoFar a e p r' device'
+  pub so_far_more : (e : Seen) (device' : DeviceState) → (d : Reads r r' line' most b c (10 ∷ [])) → r'.taken ≤ limit → Turns p (without_return d.line) device device' c e → SoFar a e p r' device'
   so_far_more e device' d few t =
       let lines = map without_return s.raws in
       let line = without_return d.line in
@@ -255,16 +263,16 @@ module _ (a b c : Seen) (p : Program) (r r' : Reader) (device : DeviceState) (li
         whole = whole_line d ∙ flat_more (s.head ++ s.raws) d.line r'.chunk ∙ ap (λ l. flat_map ended l ++ r'.chunk) (append_assoc s.head s.raws (d.line ∷ []));
         taken = size_more d;
         few = few;
-        does = says_more a c e (s.read ++ d.bytes) _ t.text _ (does_more a b c s.read d.bytes _ none s.does d.does) t.does
+        does = says_more a c e (s.read ++ d.bytes) _ t.text _ (does_more a b c s.read d.bytes _ s.does d.does) t.does
             (ap (λ l. texts p (start_world p) l (s.outcomes ++ t.answers.outcome ∷ [])) lines_are ∙ texts_more p (start_world p) lines line s.outcomes t.answers.outcome s.same ∙ ap (λ x. texts p (start_world p) lines s.outcomes ++ x) (sym text));
         represents = subst (λ v. Represents p v device') (sym (ap (λ l. lines_after p (start_world p) l (s.outcomes ++ t.answers.outcome ∷ [])) lines_are ∙ after-append p (start_world p) lines (line ∷ []) s.outcomes (t.answers.outcome ∷ []) s.same)) (t.answers.world w s.represents);
         mid = e;
-        order = subst (λ l. Order a e p l (s.outcomes ++ t.answers.outcome ∷ [])) (sym lines_are)
-            (order_more a s.mid c e p lines line (s.ahead ++ d.bytes) t.text s.outcomes t.answers.outcome s.same s.order (does_more s.mid b c s.ahead d.bytes [] none s.noise d.does) t.act text);
+        acts = subst (λ l. Acts p (start_world p) l (s.outcomes ++ t.answers.outcome ∷ []) a e) (sym lines_are)
+            (acts_more p (start_world p) lines line s.outcomes t.answers.outcome a s.mid e s.same s.acts (act_said s.mid c e (s.ahead ++ d.bytes) t.text _ (does_more s.mid b c s.ahead d.bytes [] s.noise d.does) t.does text));
         ahead = [];
         noise = does-nil e;
       }
 
-module _ (a b c : Seen) (p : Program) (r r' : Reader) (device : DeviceState) (line' : Clipped) (most : ℕ) (s : SoFar a b p r device) where
-  pub near_ordered : {bytes text : List ℕ} {f : Faults} → Does b c bytes text f → Ordered a c p (map without_return s.raws) s.outcomes []
-  near_ordered d = ordered_on a b c p (map without_return s.raws) [] s.outcomes _ _ _ (ordered_on a s.mid b p (map without_return s.raws) [] s.outcomes _ _ _ (ordered_all a s.mid p (map without_return s.raws) s.outcomes s.order) s.noise.moves) d.moves
+-- the lines so far are answered, and more was read
+pub near_ordered : (a b c : Seen) (p : Program) (r : Reader) (device : DeviceState) (s : SoFar a b p r device) (bytes : List ℕ) → Does b c bytes [] none → Ordered a c p (start_world p) (map without_return s.raws) s.outcomes []
+near_ordered a b c p r device s bytes d = ordered_all a s.mid c p (start_world p) (map without_return s.raws) s.outcomes (s.ahead ++ bytes) s.same s.acts (does_more s.mid b c s.ahead bytes [] s.noise d)

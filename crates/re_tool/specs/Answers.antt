@@ -4,18 +4,17 @@
 use Rattle.std.specs.Prelude.{ℕ, ◌-◌, List, [], ◌∷◌, ◌++◌, Bool, true, false, Option, Some, None, Result, Ok, Err, if◌then◌else◌, take, codes}
 use Rattle.re_terms.specs.declared.program.Program.{Program}
 use Rattle.re_terms.specs.declared.command.Command.{Command}
-use Rattle.re_terms.specs.Worlds.{World, Outcome, Fine, Memory, PlainAnswer, Refused, start_world, reply, world_after}
+use Rattle.re_terms.specs.Worlds.{World, Outcome, Fine, Memory, PlainAnswer, Refused, reply, world_after}
 use Rattle.re_commands.specs.declared.fault.CommandFault.{CommandFault}
 use Rattle.re_commands.specs.declared.fault.CommandFault.TheVariants as fault
 use Rattle.re_tool.specs.declared.words.Job.{Job}
 use Rattle.re_tool.specs.declared.words.Job.TheVariants as job
-use Rattle.re_tool.specs.declared.status.Status.{Status}
-use Rattle.re_tool.specs.declared.status.Status.TheVariants as status
 use Rattle.re_print.specs.Canonical.{program_text}
 use Rattle.re_commands.specs.Commanding.{commanded}
 use Rattle.re_tool.specs.Part.{Part, part_of, is_over}
 use Rattle.re_print.specs.AnswerTexts.{answer_text}
-use Rattle.re_tool.specs.Verdict.{Verdict, Rejected, Accepted, refusal_text}
+use Rattle.re_tool.specs.Endings.{Ending, Done, RefusedProgram, InputFault, NoMemory, InputTooLong, last_line}
+use Rattle.re_tool.specs.Verdict.{Verdict, Rejected, Accepted}
 
 -- what the definition of the answers doesn't decide
 pub record Outcomes : Type 0 where
@@ -96,42 +95,36 @@ session_of job.Run v read failed = session_in v (part_of read failed)
 session_of job.Check v read failed = None
 
 -- how the reading of the input ended
-abbrev pub ending : List ℕ → Bool → Status
-ending read failed = if is_over read then status.TooLong else if failed then status.Input else status.Done
+abbrev pub reading_end : List ℕ → Bool → Ending
+reading_end read failed = if is_over read then InputTooLong else if failed then InputFault else Done
 
-abbrev pub status_with : Verdict → Status → Status
-status_with (Rejected refusal) s = status.Program
-status_with v s = s
+-- a refused program part ends the run
+abbrev pub ending_with : Verdict → Ending → Ending
+ending_with (Rejected why) e = RefusedProgram why
+ending_with v e = e
 
 -- how the job ends behind an accepted program part: `check` reads no further
-abbrev pub behind_part : Job → Status → Status
-behind_part job.Run s = s
-behind_part job.Check s = status.Done
+abbrev pub behind_part : Job → Ending → Ending
+behind_part job.Run e = e
+behind_part job.Check e = Done
 
--- a program part that was read whole and is refused ends the run
-abbrev pub status_in : Job → Verdict → Option Part → Status → Status
-status_in j v None s = s
-status_in j v (Some part) s = status_with v (behind_part j s)
+-- a program part that was read whole decides first
+abbrev pub ending_in : Job → Verdict → Option Part → Ending → Ending
+ending_in j v None e = e
+ending_in j v (Some part) e = ending_with v (behind_part j e)
 
-abbrev pub status_of : Job → Verdict → List ℕ → Bool → Status
-status_of j v read failed = status_in j v (part_of read failed) (ending read failed)
+-- how the job ends where it isn't cut short
+abbrev pub ending_of : Job → Verdict → List ℕ → Bool → Ending
+ending_of j v read failed = ending_in j v (part_of read failed) (reading_end read failed)
 
--- what is said of a status, last; a refused program part has the text of its refusal in it
-abbrev pub status_line : List ℕ → Status → List ℕ
-status_line refusal status.Words = codes "rescala: bad words" ++ 10 ∷ []
-status_line refusal status.Program = codes "rescala: program: " ++ (refusal ++ 10 ∷ [])
-status_line refusal status.Input = codes "rescala: input fault" ++ 10 ∷ []
-status_line refusal status.Memory = codes "rescala: no memory" ++ 10 ∷ []
-status_line refusal status.TooLong = codes "rescala: input too long" ++ 10 ∷ []
-status_line refusal s = []
+-- the last line stands behind a text
+abbrev pub close : Ending → List ℕ → List ℕ × Ending
+close e text = (text ++ last_line e, e)
 
-abbrev pub close : Verdict → Status → List ℕ → List ℕ × Status
-close v s text = (text ++ status_line (refusal_text v) s, s)
-
--- what a session says
-abbrev pub session_text : Option Session → List Outcome → List ℕ
-session_text None os = []
-session_text (Some s) os = texts s.program (start_world s.program) s.lines os
+-- what a session says that begins in this world
+abbrev pub session_text : (Program → World) → Option Session → List Outcome → List ℕ
+session_text start None os = []
+session_text start (Some s) os = texts s.program (start s.program) s.lines os
 
 -- what `check` says of an accepted program part: its canonical text
 abbrev pub checked_text : Verdict → Option Part → List ℕ
@@ -139,9 +132,9 @@ checked_text (Accepted p) (Some part) = program_text p
 checked_text v part = []
 
 -- what a job says where it isn't cut short
-abbrev pub job_text : Job → Verdict → List ℕ → List Outcome → Bool → List ℕ
-job_text job.Run v read os failed = session_text (session_of job.Run v read failed) os
-job_text job.Check v read os failed = checked_text v (part_of read failed)
+abbrev pub job_text : Job → Verdict → (Program → World) → List ℕ → List Outcome → Bool → List ℕ
+job_text job.Run v start read os failed = session_text start (session_of job.Run v read failed) os
+job_text job.Check v start read os failed = checked_text v (part_of read failed)
 
 -- a session of its first n lines
 abbrev pub first_lines : ℕ → Option Session → Option Session
@@ -160,10 +153,10 @@ done_by (Some (n, said)) s = first_lines n s
 abbrev pub done : Job → Verdict → List ℕ → Outcomes → Option Session
 done j v read o = done_by o.stopped (session_of j v read o.input_failed)
 
-abbrev pub answers_by : Option (ℕ × Bool) → Job → Verdict → List ℕ → List Outcome → Bool → List ℕ × Status
-answers_by None j v read os failed = close v (status_of j v read failed) (job_text j v read os failed)
-answers_by (Some (n, said)) j v read os failed = close v status.Memory (session_text (first_lines (said_lines n said) (session_of j v read failed)) os)
+abbrev pub answers_by : Option (ℕ × Bool) → Job → Verdict → (Program → World) → List ℕ → List Outcome → Bool → List ℕ × Ending
+answers_by None j v start read os failed = close (ending_of j v read failed) (job_text j v start read os failed)
+answers_by (Some (n, said)) j v start read os failed = close NoMemory (session_text start (first_lines (said_lines n said) (session_of j v read failed)) os)
 
--- the output and the status of a job, where the program part has this verdict
-abbrev pub answers : Job → Verdict → List ℕ → Outcomes → List ℕ × Status
-answers j v read o = answers_by o.stopped j v read o.commands o.input_failed
+-- the output of a job and how it ends, where the program part has this verdict and a session begins in this world
+abbrev pub answers : Job → Verdict → (Program → World) → List ℕ → Outcomes → List ℕ × Ending
+answers j v start read o = answers_by o.stopped j v start read o.commands o.input_failed

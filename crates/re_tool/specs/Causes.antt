@@ -1,7 +1,7 @@
 -- When each status comes, in what is seen outside.
 use Rattle.std.specs.Prelude.{ℕ, ◌≡◌, ◌<◌, ◌≤◌, ◌+◌, ◌++◌, ◌⊎◌, length, take, List, Bool, true, false, Some}
 use Rattle.std.specs.List.{flat_map}
-use Rattle.re_outside.specs.Outside.{Seen, Counts, IsAtEnd}
+use Rattle.re_outside.specs.Outside.{Seen, FaultKind, Input, Output, Counts, IsAtEnd}
 use Rattle.re_tool.specs.declared.words.Job.{Job}
 use Rattle.re_tool.specs.declared.words.Job.TheVariants as job
 use Rattle.re_tool.specs.declared.faults.Refusal.{Refusal}
@@ -19,11 +19,11 @@ IsUnlessEnded wanted s = (s ≡ wanted) ⊎ ((s ≡ status.Memory) ⊎ (s ≡ st
 
 -- status 7 comes only where the count of input faults rose
 abbrev pub InputCause : Seen → Seen → Status → Type 0
-InputCause old new s = s ≡ status.Input → Counts 1 old.input_faults new.input_faults
+InputCause old new s = s ≡ status.Input → Counts 1 (old.faults Input) (new.faults Input)
 
 -- status 8 comes exactly where the count of output faults rose
 abbrev pub OutputCause : Seen → Seen → Status → Type 0
-OutputCause old new s = Counts (one_if (is_output s)) old.output_faults new.output_faults
+OutputCause old new s = Counts (one_if (is_output s)) (old.faults Output) (new.faults Output)
 
 -- the program part was read to the separator or to the end of the input
 pub record IsPartRead (old new : Seen) : Type 0 where
@@ -73,8 +73,7 @@ pub record ProgramCause (j : Job) (old new : Seen) (s : Status) : Type 0 where
 -- No count of faults rose, no byte too many came, and the program part, if it was read whole, isn't refused.
 pub record IsUntroubled (j : Job) (old new : Seen) : Type 0 where
   pub told : old.told ≡ true
-  pub input : Counts 1 old.input_faults new.input_faults → ⊥
-  pub output : Counts 1 old.output_faults new.output_faults → ⊥
+  pub quiet : (kind : FaultKind) → Counts 1 (old.faults kind) (new.faults kind) → ⊥
   pub few : TooMuch old new → ⊥
   pub accepted : IsRefusedPart j old new → ⊥
 

@@ -4,6 +4,8 @@ pub mod Built
 pub mod Causes
 pub mod Clipped
 pub mod Device
+pub mod Endings
+pub mod Failures
 pub mod Faults
 pub mod Histories
 pub mod Lines
@@ -11,6 +13,7 @@ pub mod Opening
 pub mod Part
 pub mod PartReading
 pub mod Reads
+pub mod Refusals
 pub mod Serving
 pub mod Session
 pub mod Status

@@ -1,6 +1,6 @@
 -- The program part of an input, and the lines behind it.
 -- Read against: `device a;` LF `---` LF LF LF has the part `device a;` LF and the lines '', '' and, at the end, ''.
-use Rattle.std.specs.Prelude.{ℕ, List, [], ◌∷◌, ◌++◌, Bool, ◌||◌, Option, Some, None, option_map, if◌then◌else◌, map, take, length, nat_lt, codes}
+use Rattle.std.specs.Prelude.{ℕ, ◌≡◌, true, false, List, [], ◌∷◌, ◌++◌, Bool, ◌||◌, Option, Some, None, option_map, if◌then◌else◌, map, take, length, nat_lt, codes}
 use Rattle.std.specs.List.{flat_map}
 use Rattle.std.specs.Str.{bytes_eq}
 use Rattle.re_tool.specs.Lines.{split, ended, without_return}
@@ -19,6 +19,18 @@ is_separator line = bytes_eq line (codes "---")
 abbrev pub divided : List (List ℕ) → Option (List (List ℕ) × List (List ℕ))
 divided [] = None
 divided (line ∷ lines) = if is_separator (without_return line) then Some ([], lines) else option_map (λ p. (line ∷ p.0, p.1)) (divided lines)
+
+-- none of these lines is a separator
+abbrev pub Undivided : List (List ℕ) → Type 0
+Undivided [] = Unit {0}
+Undivided (line ∷ lines) = (is_separator (without_return line) ≡ false) × Undivided lines
+
+-- The first separator of these lines stands between these.
+pub record IsFirstSeparator (lines front back : List (List ℕ)) : Type 0 where
+  pub line : List ℕ
+  pub whole : lines ≡ front ++ line ∷ back
+  pub separates : is_separator (without_return line) ≡ true
+  pub first : Undivided front
 
 -- a last line without its LF counts where the input was read to its end
 abbrev pub last_lines : Bool → List ℕ → List (List ℕ)

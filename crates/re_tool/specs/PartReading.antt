@@ -1,7 +1,8 @@
 -- What reading the program part does.
 use Rattle.std.specs.Prelude.{ℕ, ◌≡◌, ◌≤◌, ◌+◌, List, [], ◌++◌, Bool, true, false, Some, None, Result, Ok, Err, length}
 use Rattle.std.specs.List.{flat_map}
-use Rattle.re_outside.specs.Outside.{Seen, Does, IsAtEnd, none, input_fault}
+use Rattle.re_outside.specs.Outside.{Seen, Does, Fails, IsAtEnd, none, input_fault}
+use Rattle.re_outside.specs.declared.step.Call.TheVariants as call
 use Rattle.re_tool.specs.declared.reader.Reader.{Reader}
 use Rattle.re_tool.specs.declared.part.PartText.{PartText}
 use Rattle.re_tool.specs.declared.part.Stop.{Stop}
@@ -46,7 +47,9 @@ pub record PartFails (a b : Seen) : Type 0 where
   pub read : List ℕ
   pub few : length read ≤ limit
   pub is_none : part_of read true ≡ None
-  pub does : Does a b read [] input_fault
+  pub mid : Seen
+  pub does : Does a mid read [] none
+  pub fails : Fails mid b call.Take input_fault
 
 -- Too much came before the program part ended.
 pub record PartTooLong (a b : Seen) : Type 0 where

@@ -9,7 +9,6 @@ use Rattle.re_tool.specs.declared.words.Job.TheVariants as job
 use Rattle.re_tool.specs.declared.reader.Reader.{Reader}
 use Rattle.re_tool.specs.declared.running.Ended.{Ended}
 use Rattle.re_tool.specs.declared.running.Ended.TheVariants as ended_by
-use Rattle.re_tool.specs.Acts.{ActOn}
 use Rattle.re_tool.specs.Answers.{line_text, line_after}
 use Rattle.re_commands.specs.Commanding.{commanded}
 use Rattle.re_device.specs.Device.{DeviceState}
@@ -35,7 +34,6 @@ pub record AnswersLine (p : Program) (line : List ℕ) (before after : DeviceSta
 pub record Turns (p : Program) (line : List ℕ) (before after : DeviceState) (old new : Seen) : Type 0 where
   pub text : List ℕ
   pub answers : AnswersLine p line before after text
-  pub act : ActOn old new text
   pub does : Does old new [] text none
 
 -- The line is done, and its answer breaks off.
@@ -44,9 +42,15 @@ pub record TurnBreaks (p : Program) (line : List ℕ) (before after : DeviceStat
   pub answers : AnswersLine p line before after text
   pub breaks : Breaks old new text none
 
+-- The line is done, and nothing is said of it, since memory ran out for its answer.
+pub record TurnLost (p : Program) (line : List ℕ) (before after : DeviceState) (old new : Seen) : Type 0 where
+  pub text : List ℕ
+  pub answers : AnswersLine p line before after text
+  pub does : Does old new [] [] none
+
 abbrev pub TurnGives : Program → List ℕ → DeviceState → DeviceState → Seen → Seen → Result ⊤ Ended → Type 0
 TurnGives p line before after old new (Ok x) = Turns p line before after old new
-TurnGives p line before after old new (Err ended_by.Memory) = Does old new [] [] none
+TurnGives p line before after old new (Err ended_by.Memory) = TurnLost p line before after old new
 TurnGives p line before after old new (Err ended_by.Output) = TurnBreaks p line before after old new
 
 -- The program part of this program and its separator were read, and nothing else was done.

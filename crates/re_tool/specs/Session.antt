@@ -1,6 +1,8 @@
 -- What a whole run does.
 use Rattle.std.specs.Prelude.{ℕ, ◌≡◌, ◌≤◌, ◌+◌, ◌++◌, ◌⊎◌, length, List, [], Bool, true, false, Option, Some, None, IsSome}
-use Rattle.re_outside.specs.Outside.{Seen, Does, Breaks, IsAtEnd, Faults, none}
+use Rattle.re_outside.specs.Outside.{Seen, FaultKind, Input, Output, Disk, Does, Fails, Breaks, IsAtEnd, Faults, none, input_fault}
+use Rattle.re_outside.specs.declared.step.Call.TheVariants as call
+use Rattle.re_terms.specs.Worlds.{start_world}
 use Rattle.re_tool.specs.declared.words.Job.{Job}
 use Rattle.re_tool.specs.declared.words.Job.TheVariants as job
 use Rattle.re_tool.specs.declared.status.Status.{Status}
@@ -9,7 +11,8 @@ use Rattle.re_tool.specs.Acts.{OrderedIn}
 use Rattle.re_tool.specs.Lines.{split}
 use Rattle.re_tool.specs.Part.{Part, divided, part_of}
 use Rattle.re_tool.specs.Reads.{limit}
-use Rattle.re_tool.specs.Answers.{Outcomes, Session, answers, done, status_line}
+use Rattle.re_tool.specs.Answers.{Outcomes, Session, answers, done}
+use Rattle.re_tool.specs.Endings.{Ending, BadWords, InputFault, NoMemory, status_at, last_line}
 use Rattle.re_tool.specs.Verdict.{Verdict, IsJudged}
 
 abbrev pub is_output : Status → Bool
@@ -17,16 +20,19 @@ is_output status.Output = true
 is_output s = false
 
 -- All of the answers are said and the status is theirs, or a front of them where a `say` failed.
-abbrev pub Tells : List ℕ × Status → List ℕ → Status → Type 0
+abbrev pub Tells : List ℕ × Ending → List ℕ → Status → Type 0
 Tells a text status.Output = (rest : List ℕ) × (a.0 ≡ text ++ rest)
-Tells a text s = (a.0 ≡ text) × (a.1 ≡ s)
+Tells a text s = (a.0 ≡ text) × (status_at a.1 ≡ s)
 
 abbrev pub one_if : Bool → ℕ
 one_if true = 1
 one_if false = 0
 
+-- a call that takes failed or not, a call that says failed or not, and none on a file
 abbrev pub faults_of : Bool → Bool → Faults
-faults_of input output = record { input = one_if input; output = one_if output }
+faults_of input output Input = one_if input
+faults_of input output Output = one_if output
+faults_of input output (Disk device) = 0
 
 -- at the end for want of memory or of output at most one line, the last, has no whole answer
 abbrev pub Unanswered : Status → List (List ℕ) → Type 0
@@ -68,6 +74,21 @@ ReadFar j status.Memory v read o new = AreComplete j v read o ⊎ IsAtEnd new
 ReadFar j status.Output v read o new = AreComplete j v read o ⊎ IsAtEnd new
 ReadFar j s v read o new = Unit {0}
 
+-- no call failed between these moments, or a `take` did
+abbrev pub Halts : Bool → Seen → Seen → Type 0
+Halts false calm halted = halted ≡ calm
+Halts true calm halted = Fails calm halted call.Take input_fault
+
+-- the rest of the text is said, or a front of it, behind which a `say` failed
+abbrev pub Closes : Seen → Seen → List ℕ → Status → Type 0
+Closes halted new last status.Output = Breaks halted new last none
+Closes halted new last s = Does halted new [] last none
+
+-- behind a failed `take` the line of status 7 is all that is said
+abbrev pub OnlyLastLine : Bool → List ℕ → Status → Type 0
+OnlyLastLine false last s = Unit {0}
+OnlyLastLine true last s = (last ≡ last_line InputFault) × ((s ≡ status.Input) ⊎ (s ≡ status.Output))
+
 pub record Runs (j : Job) (old new : Seen) (s : Status) : Type 0 where
   -- the bytes that were taken, at most one over the limit
   pub read : List ℕ
@@ -80,11 +101,18 @@ pub record Runs (j : Job) (old new : Seen) (s : Status) : Type 0 where
   pub text : List ℕ
   -- the input fault and the output fault are the outcomes', and no others came
   pub does : Does old new read text (faults_of outcomes.input_failed (is_output s))
-  pub tells : Tells (answers j verdict read outcomes) text s
+  pub tells : Tells (answers j verdict start_world read outcomes) text s
   -- the answers stand whole and in order behind their commands' steps, all but perhaps the last
   pub unanswered : List (List ℕ)
   pub whole : Unanswered s unanswered
-  pub ordered : OrderedIn old new (done j verdict read outcomes) outcomes.commands unanswered
+  pub calm : Seen
+  pub ordered : OrderedIn old calm start_world (done j verdict read outcomes) outcomes.commands unanswered
+  -- behind them a `take` may have failed, and then the rest of the text is said
+  pub halted : Seen
+  pub halts : Halts outcomes.input_failed calm halted
+  pub last : List ℕ
+  pub closes : Closes halted new last s
+  pub only : OnlyLastLine outcomes.input_failed last s
   pub far : ReadFar j s verdict read outcomes new
 
 -- The last line is said, or a front of it.
@@ -94,4 +122,4 @@ Finishes old new line s r = (r ≡ s) × Does old new [] line none
 
 -- The words were refused, or memory ran out for them.
 abbrev pub Refuses : Seen → Seen → Status → Type 0
-Refuses old new s = Finishes old new (status_line [] status.Words) status.Words s ⊎ Finishes old new (status_line [] status.Memory) status.Memory s
+Refuses old new s = Finishes old new (last_line BadWords) status.Words s ⊎ Finishes old new (last_line NoMemory) status.Memory s

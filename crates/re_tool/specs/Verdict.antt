@@ -86,24 +86,3 @@ pub record Decides (j : Job) (text : List ℕ) (v : Verdict) : Type 0 where
 abbrev pub IsJudged : Job → Verdict → Option Part → Option (ℕ × Bool) → Type 0
 IsJudged j v None stopped = v ≡ Unknown
 IsJudged j v (Some part) stopped = Decides j part.text v ⊎ ((v ≡ Unknown) × (stopped ≡ Some (0, true)))
-
--- the fault of a declaration, counted from 1
-abbrev pub declaration_text : ℕ → List ℕ → List ℕ
-declaration_text place text = codes "declaration " ++ (decimal (place + 1) ++ text)
-
--- the text of a refusal
-abbrev pub refusal_words : Refusal → List ℕ
-refusal_words refusal.TooLong = codes "too long"
-refusal_words (refusal.NoToken place) = codes "no token at " ++ decimal place
-refusal_words (refusal.Unexpected place) = codes "unexpected token at " ++ decimal place
-refusal_words (refusal.TooDeep place) = codes "too deep at " ++ decimal place
-refusal_words (refusal.TooMany place) = declaration_text place (codes ": too many")
-refusal_words (refusal.Twice place) = declaration_text place (codes ": declared twice")
-refusal_words (refusal.Unknown place) = declaration_text place (codes ": unknown name")
-refusal_words (refusal.Kind place) = declaration_text place (codes ": wrong kind")
-refusal_words refusal.NoDevice = codes "no device"
-refusal_words refusal.NotBuilt = codes "not built"
-
-abbrev pub refusal_text : Verdict → List ℕ
-refusal_text (Rejected why) = refusal_words why
-refusal_text v = []

@@ -1,8 +1,8 @@
 //! Bytes that were taken from the input and not looked at yet.
 ghost use Rattle.std.specs.Prelude.{◌≡◌, ◌≤◌, ◌<◌, [], ◌∷◌, length, MatchOption, IfOk, OnOk, OnErr};
-ghost use Rattle.re_outside.specs.Outside.{Does, IsAtEnd, none, input_fault};
+ghost use Rattle.re_outside.specs.Outside.{Does, Fails, IsAtEnd, none, input_fault};
 
-use re_outside::{Failed, Outside};
+use re_outside::{Call, Failed, Outside};
 use std::marker::Model;
 
 const SIZE: usize = 16384;
@@ -56,7 +56,7 @@ impl Chunk {
         ensures count { IfOk result (λ n. (n ≡ length self.new) × (n ≤ most)) }
         ensures given { OnOk result (Does (O.seen out.old) (O.seen out.new) self.new [] none) }
         ensures end { IfOk result (λ n. n ≡ 0 → IsAtEnd (O.seen out.new)) }
-        ensures failed { OnErr result ((self.new ≡ []) × Does (O.seen out.old) (O.seen out.new) [] [] input_fault) }
+        ensures failed { OnErr result ((self.new ≡ []) × Fails (O.seen out.old) (O.seen out.new) Call.Take input_fault) }
     {
         let room = most.min(SIZE);
         self.at = 0;

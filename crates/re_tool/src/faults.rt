@@ -1,7 +1,7 @@
 //! Why no program was read.
 ghost use Rattle.std.specs.Prelude.{◌≡◌, ◌++◌, IfOk};
 ghost use Rattle.std.specs.Fmt.{decimal};
-ghost use Rattle.re_tool.specs.Verdict.{declaration_text, refusal_words};
+ghost use Rattle.re_tool.specs.Refusals.{declaration_text, refusal_words};
 
 use re_syntax::SyntaxFault;
 use re_tokens::LexFault;

@@ -1,5 +1,6 @@
 //! What follows from the definitions of the answers, for every program and every session.
-ghost use Rattle.std.specs.Prelude.{◌≡◌, ℕ, List, [], ◌∷◌, ◌++◌, ◌≢◌, ◌↔◌, slice_get, Ok, Some, None};
+ghost use Rattle.std.specs.List.{flat_map};
+ghost use Rattle.std.specs.Prelude.{◌≡◌, ℕ, List, [], ◌∷◌, ◌++◌, ◌≢◌, ◌↔◌, ◌≤◌, true, false, length, slice_get, Ok, Some, None};
 ghost use Rattle.re_terms.specs.declared.expr.Expr.{Expr};
 ghost use Rattle.re_terms.specs.declared.program.Decl.{Decl};
 ghost use Rattle.re_terms.specs.declared.program.Program.{Program};
@@ -9,11 +10,16 @@ ghost use Rattle.re_terms.specs.Meaning.{meaning};
 ghost use Rattle.re_terms.specs.Programs.{IsProgram};
 ghost use Rattle.re_terms.specs.Runs.{plain_view};
 ghost use Rattle.re_terms.specs.SignalWords.{names_environment, signal_word};
-ghost use Rattle.re_terms.specs.Worlds.{World, Outcome, Fine, Memory, Refused, start_world, world_state};
+ghost use Rattle.re_terms.specs.declared.entry.Admitted.{Admitted};
+ghost use Rattle.re_terms.specs.Limits.{OperationFault, updates_fault};
+ghost use Rattle.re_terms.specs.Shapes.{shape_of};
+ghost use Rattle.re_terms.specs.Worlds.{World, Outcome, Fine, Memory, Refused, is_full, last_number, limit_code, start_world, world_state};
 ghost use Rattle.re_commands.specs.Commanding.{commanded};
 ghost use Rattle.re_print.specs.Canonical.{word_text};
 ghost use Rattle.re_tool.specs.Answers.{line_answer, line_text, lines_after, fault_code};
-ghost use Rattle.re_tool.specs.Histories.{last_set, taken};
+ghost use Rattle.re_tool.specs.Histories.{IsTurn, last_set, taken};
+ghost use Rattle.re_tool.specs.Lines.{split, ended, IsPlain, ArePlain};
+ghost use Rattle.re_tool.specs.Part.{divided, Undivided, IsFirstSeparator};
 
 use re_commands::CommandFault;
 use re_terms::{Body, Command};
@@ -50,4 +56,26 @@ pub fn refusal_law()
         (line_answer p w (commanded p line) o ≡ None) ↔ (commanded p line ≡ Ok None) }
     ensures memory { (p : Program) (w : World) (line : List ℕ) (o : Outcome) →
         (line_answer p w (commanded p line) o ≡ Some (Refused 36)) ↔ ((o ≡ Memory) × (commanded p line ≢ Ok None)) }
+{}
+
+/// The lines of some bytes, each with its LF, and the rest are these bytes, and no LF stands elsewhere. What divides
+/// lines is the first separator among them: the lines before it are the program part.
+pub fn lines_law()
+    ensures whole { (bytes : List ℕ) → flat_map ended (split bytes).0 ++ (split bytes).1 ≡ bytes }
+    ensures plain { (bytes : List ℕ) → ArePlain (split bytes).0 × IsPlain (split bytes).1 }
+    ensures separator { (lines front back : List (List ℕ)) → divided lines ≡ Some (front, back) → IsFirstSeparator lines front back }
+    ensures no_separator { (lines : List (List ℕ)) → divided lines ≡ None → Undivided lines }
+{}
+
+/// Want of memory aside, a turn is refused with the code 29 exactly where the device takes no more, and with the code of
+/// a limit exactly where it takes more and an operation of the turn would pass that limit first. No other line is refused
+/// with the codes 29 to 32.
+pub fn limit_law()
+    ensures full { (p : Program) (w : World) (line : List ℕ) (device : ℕ) (turn : Admitted) → commanded p line ≡ Ok (Some (Command.Turn device turn)) →
+        (line_answer p w (commanded p line) Fine ≡ Some (Refused 29)) ↔ (is_full (length w.settled) (last_number w) ≡ true) }
+    ensures limits { (p : Program) (w : World) (line : List ℕ) (device : ℕ) (turn : Admitted) (f : OperationFault) → commanded p line ≡ Ok (Some (Command.Turn device turn)) →
+        (line_answer p w (commanded p line) Fine ≡ Some (Refused (limit_code f)))
+        ↔ ((is_full (length w.settled) (last_number w) ≡ false) × (updates_fault (shape_of p) 0 turn.turn.ops.items (world_state p w).taken ≡ Some f)) }
+    ensures only { (p : Program) (w : World) (line : List ℕ) (o : Outcome) (code : ℕ) → 29 ≤ code → code ≤ 32 →
+        line_answer p w (commanded p line) o ≡ Some (Refused code) → IsTurn (commanded p line) o }
 {}

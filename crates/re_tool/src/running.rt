@@ -4,16 +4,18 @@ ghost use Rattle.re_outside.specs.Outside.{Seen, Does, Breaks, none};
 ghost use Rattle.re_terms.specs.Admission.{IsAdmitted, IsCommandOf};
 ghost use Rattle.re_terms.specs.Programs.{IsProgram};
 ghost use Rattle.re_terms.specs.Worlds.{is_set_at};
-ghost use Rattle.re_tool.specs.Answers.{status_line, fault_code};
+ghost use Rattle.re_tool.specs.Answers.{fault_code};
 ghost use Rattle.re_tool.specs.Causes.{EndCause, ProgramCause, InputCause, OutputCause, TooLongCause, Completes};
 ghost use Rattle.re_tool.specs.Device.{StepsTo, turn_fault_code};
+ghost use Rattle.re_tool.specs.Endings.{RefusedProgram, NoMemory, last_line, plain_ending};
+ghost use Rattle.re_tool.specs.Failures.{StopsAtFailures};
 ghost use Rattle.re_tool.specs.Clipped.{Clipped};
 ghost use Rattle.re_tool.specs.PartReading.{PartIs};
 ghost use Rattle.re_tool.specs.Opening.{Opens};
 ghost use Rattle.re_tool.specs.Reads.{limit};
 ghost use Rattle.re_tool.specs.Serving.{AnswersLine, TurnGives, Starts, said_of};
 ghost use Rattle.re_tool.specs.Session.{Finishes, Runs};
-ghost use Rattle.re_tool.specs.Verdict.{Decides, Accepted, refusal_words};
+ghost use Rattle.re_tool.specs.Verdict.{Decides, Accepted};
 ghost use Rattle.re_print.specs.AnswerTexts.{AscendsWhereSet};
 ghost use Rattle.re_device.specs.Device.{started};
 
@@ -195,7 +197,7 @@ fn turn<L: Ledger, O: Outside>(
 /// What is said last of a status but that of a refused program.
 fn last_line(status: Status) -> &'static [u8]
     requires { status ≢ Status.Program }
-    ensures { result.now ≡ status_line [] status }
+    ensures { result.now ≡ last_line (plain_ending status) }
 {
     match status {
         Status::Words => b"rescala: bad words\n",
@@ -210,7 +212,7 @@ fn last_line(status: Status) -> &'static [u8]
 pub fn finish<O: Outside>(out: &mut O, status: Status) -> Status
     requires said { status ≢ Status.Output }
     requires accepted { status ≢ Status.Program }
-    ensures { Finishes (O.seen out.old) (O.seen out.new) (status_line [] status) status result }
+    ensures { Finishes (O.seen out.old) (O.seen out.new) (last_line (plain_ending status)) status result }
 {
     if say_all(out, last_line(status)).is_err() {
         return Status::Output;
@@ -220,7 +222,7 @@ pub fn finish<O: Outside>(out: &mut O, status: Status) -> Status
 
 /// The line that says why a program part is refused. The one refusal of its own is want of memory.
 fn refusal_line(alloc: Global, why: Refusal) -> Result<Vec<u8>, AllocError>
-    ensures { IfOk result (λ line. line.items ≡ status_line (refusal_words why) Status.Program) }
+    ensures { IfOk result (λ line. line.items ≡ last_line (RefusedProgram why)) }
 {
     let text = refusal_text(alloc, why)?;
     let mut line = b"rescala: program: ".to_vec(alloc)?;
@@ -231,7 +233,7 @@ fn refusal_line(alloc: Global, why: Refusal) -> Result<Vec<u8>, AllocError>
 
 /// Says why a program part is refused, or that memory ran out for it.
 fn refuse<O: Outside>(alloc: Global, out: &mut O, why: Refusal) -> Status
-    ensures { Finishes (O.seen out.old) (O.seen out.new) (status_line (refusal_words why) Status.Program) Status.Program result ⊎ Finishes (O.seen out.old) (O.seen out.new) (status_line [] Status.Memory) Status.Memory result }
+    ensures { Finishes (O.seen out.old) (O.seen out.new) (last_line (RefusedProgram why)) Status.Program result ⊎ Finishes (O.seen out.old) (O.seen out.new) (last_line NoMemory) Status.Memory result }
 {
     let Ok(line) = refusal_line(alloc, why) else {
         return finish(out, Status::Memory);
@@ -415,6 +417,7 @@ pub fn session<O: Outside>(alloc: Global, job: &Job, out: &mut O) -> Status
     ensures output { OutputCause (O.seen out.old) (O.seen out.new) result }
     ensures too_long { TooLongCause (O.seen out.old) (O.seen out.new) result }
     ensures complete { Completes job.now (O.seen out.old) (O.seen out.new) result }
+    ensures failures { StopsAtFailures (O.seen out.old) (O.seen out.new) result }
 {
     match job {
         Job::Run => run(alloc, out),

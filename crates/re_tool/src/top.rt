@@ -2,6 +2,7 @@
 ghost use Rattle.std.specs.Prelude.{◌≡◌, Some, None, map};
 ghost use Rattle.std.specs.String.{string_bytes};
 ghost use Rattle.re_tool.specs.Causes.{EndCause, ProgramCause, InputCause, OutputCause, TooLongCause, Completes};
+ghost use Rattle.re_tool.specs.Failures.{StopsAtFailures};
 ghost use Rattle.re_tool.specs.Session.{Runs, Refuses};
 ghost use Rattle.re_tool.specs.Words.{job_of};
 
@@ -34,6 +35,7 @@ pub fn tool<R: Threads + Wait + Sync, O: Outside + Send, G: Gate>(
     ensures output { OutputCause (O.Outside.seen out.old) (O.Outside.seen out.new) result }
     ensures too_long { TooLongCause (O.Outside.seen out.old) (O.Outside.seen out.new) result }
     ensures complete { (job : Job) → job_of (map string_bytes words.now) ≡ Some job → Completes job (O.Outside.seen out.old) (O.Outside.seen out.new) result }
+    ensures failures { StopsAtFailures (O.Outside.seen out.old) (O.Outside.seen out.new) result }
 {
     match read_words(alloc, words) {
         Ok(Wish::Job(job)) => session(alloc, &job, out),

@@ -5,7 +5,7 @@ use Rattle.re_tool.specs.Clipped.{Clipped}
 use Rattle.re_tool.specs.Serving.{Starts}
 use Rattle.re_tool.proofs.Sessions.{starts_so_far, ready_line, ready_end, so_far_more}
 use Rattle.re_tool.proofs.Endings.{near_failed, near_too_long, near_halted, near_memory, runs_output, runs_done, near_finish}
-use Rattle.re_tool.proofs.Serves.{turns_kept, breaks_kept, turns_kept_last, breaks_kept_last, turns_of, breaks_of}
+use Rattle.re_tool.proofs.Serves.{turns_kept, lost_kept, breaks_kept, turns_kept_last, lost_kept_last, breaks_kept_last, turns_of, lost_of, breaks_of}
 use Rattle.re_tool.proofs.Parts.{line_smaller}
 use Rattle.re_tool.proofs.running.serve.Goals as goal
 use Rattle.re_tool.proofs.running.serve.Goals.{in-Ok-turn, in-Err-Memory-turn-2, in-Err-Output-turn}
@@ -54,8 +54,8 @@ lines-preserved g c =
 pub returns-in-Err-Memory-turn : goal.returns-in-Err-Memory-turn
 returns-in-Err-Memory-turn g c =
     let e = rw c.in-Ok-Line.field-0-is at c.in-Ok-Line.ensures in
-    let t = rw c.in-Err-Memory-turn.field-0-is at c.in-Err-Memory-turn.ensures.turns in
-    λ start h. near_finish _ _ _ _ _ (near_memory _ _ _ _ _ _ (ready_line _ _ _ _ _ _ _ _ _ (c.lines.invariant.so_far start h) e.0 e.1) t) _ (λ q. absurd (cc)) c.finish-in-Err-Memory-turn.ensures
+    let t = rw (c.in-Err-Memory-turn.field-0-is, c.trim_return.ensures, c.bytes.ensures) at c.in-Err-Memory-turn.ensures.turns in
+    λ start h. near_finish _ _ _ _ _ (near_memory _ _ _ _ _ _ (ready_line _ _ _ _ _ _ _ _ _ (c.lines.invariant.so_far start h) e.0 e.1) _ (lost_kept _ _ _ _ _ _ _ _ e.0.keeps c.lines.invariant.most (lost_of _ _ _ _ _ _ _ c.lines.invariant.program t))) _ (λ q. absurd (cc)) c.finish-in-Err-Memory-turn.ensures
 
 pub returns-in-Err-Output : goal.returns-in-Err-Output
 returns-in-Err-Output g c =
@@ -72,8 +72,8 @@ returns-in-Ok-End g c =
           let t = rw c.bytes-in-Ok-End.ensures at w.in-Ok-turn.ensures.turns in
           rw (w.out-is, w.result-is) (λ start h. runs_done _ _ _ _ _ _ (q start h).0 _ (q start h).1 e.3 (turns_kept_last _ _ _ _ _ _ _ _ e.0.keeps c.lines.invariant.most (turns_of _ _ _ _ _ _ _ c.lines.invariant.program t)))
       | in-Err-Memory-turn-2 w ↦
-          let t = rw w.in-Err-Memory-turn-2.field-0-is at w.in-Err-Memory-turn-2.ensures.turns in
-          rw (w.out-is, w.result-is) (λ start h. near_finish _ _ _ _ _ (near_memory _ _ _ _ _ _ (q start h).0 t) _ (λ x. absurd (cc)) w.finish-in-Err-Memory-turn-2.ensures)
+          let t = rw (w.in-Err-Memory-turn-2.field-0-is, c.bytes-in-Ok-End.ensures) at w.in-Err-Memory-turn-2.ensures.turns in
+          rw (w.out-is, w.result-is) (λ start h. near_finish _ _ _ _ _ (near_memory _ _ _ _ _ _ (q start h).0 _ (lost_kept_last _ _ _ _ _ _ _ _ e.0.keeps c.lines.invariant.most (lost_of _ _ _ _ _ _ _ c.lines.invariant.program t))) _ (λ x. absurd (cc)) w.finish-in-Err-Memory-turn-2.ensures)
       | in-Err-Output-turn w ↦
           let t = rw (w.in-Err-Output-turn.field-0-is, c.bytes-in-Ok-End.ensures) at w.in-Err-Output-turn.ensures.turns in
           rw (w.out-is, w.result-is) (λ start h. runs_output _ _ _ _ _ _ (q start h).0 _ (breaks_kept_last _ _ _ _ _ _ _ _ e.0.keeps c.lines.invariant.most (breaks_of _ _ _ _ _ _ _ c.lines.invariant.program t)))

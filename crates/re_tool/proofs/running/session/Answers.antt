@@ -1,4 +1,5 @@
 use Rattle.re_tool.proofs.Caused.{program_cause, input_cause, too_long_cause, end_cause, completes}
+use Rattle.re_tool.proofs.Failing.{run_stops}
 use Rattle.re_tool.proofs.running.session.Goals as goal
 
 pub returns-in-Run-clause-program : goal.returns-in-Run-clause-program
@@ -27,3 +28,9 @@ returns-in-Run-clause-complete g c = rw c.in-Run.is (completes _ _ _ _ c.run.ens
 
 pub returns-in-Check-clause-complete : goal.returns-in-Check-clause-complete
 returns-in-Check-clause-complete g c = rw c.in-Check.is (completes _ _ _ _ c.check.ensures)
+
+pub returns-in-Run-clause-failures : goal.returns-in-Run-clause-failures
+returns-in-Run-clause-failures g c = run_stops _ _ _ _ c.run.ensures
+
+pub returns-in-Check-clause-failures : goal.returns-in-Check-clause-failures
+returns-in-Check-clause-failures g c = run_stops _ _ _ _ c.check.ensures

@@ -1,7 +1,6 @@
 use Rattle.std.proofs.Common.{[], Some, sym, subst, ◌∙◌}
 use Rattle.re_outside.specs.Outside.{Does, none}
 use Rattle.re_tool.specs.Serving.{AnswersLine, said_of}
-use Rattle.re_tool.proofs.Orders.{act_said}
 use Rattle.re_tool.proofs.running.turn.Goals as goal
 
 pub returns-in-Ok-say_all-clause-turns : goal.returns-in-Ok-say_all-clause-turns
@@ -12,6 +11,5 @@ returns-in-Ok-say_all-clause-turns g c =
       text = said_of c.program.result.now (Some c.in-Some.answer);
       answers = subst (λ q. AnswersLine p c.args.line.now c.args.device.now c.answer_line.new.device (said_of q (Some c.in-Some.answer))) (sym (c.program.ensures.program ∙ c.answer_line.ensures.program))
           (subst (λ r. AnswersLine p c.args.line.now c.args.device.now c.answer_line.new.device (said_of p r)) c.in-Some.is c.answer_line.ensures.answers);
-      act = act_said _ _ _ says;
       does = says;
     }

@@ -6,7 +6,9 @@ use Rattle.re_tool.specs.Session.{Runs}
 use Rattle.re_tool.specs.Words.{IsWish}
 use Rattle.re_outside.proofs.Does.{does-nil}
 use Rattle.re_tool.proofs.Caused.{never_words, program_cause, completes}
+use Rattle.std.proofs.Common.{inl, inr}
 use Rattle.re_tool.proofs.Endings.{near_finish}
+use Rattle.re_tool.proofs.Failing.{refused_stops}
 use Rattle.re_tool.proofs.Starting.{near_stops}
 use Rattle.re_tool.proofs.top.tool.Goals as goal
 
@@ -39,3 +41,9 @@ returns-in-Ok-Job-clause-complete g c = λ j h.
 
 pub returns-in-Err-Memory-clause-complete : goal.returns-in-Err-Memory-clause-complete
 returns-in-Err-Memory-clause-complete g c = λ j h. completes _ _ _ _ (near_finish _ _ _ _ _ (near_stops _ _ _ _ (omega arith) (does-nil _)) _ (λ q. absurd (cc)) c.finish-in-Err-Memory.ensures)
+
+pub returns-in-Err-Words-clause-failures : goal.returns-in-Err-Words-clause-failures
+returns-in-Err-Words-clause-failures g c = refused_stops _ _ _ (inl c.finish.ensures)
+
+pub returns-in-Err-Memory-clause-failures : goal.returns-in-Err-Memory-clause-failures
+returns-in-Err-Memory-clause-failures g c = refused_stops _ _ _ (inr c.finish-in-Err-Memory.ensures)

@@ -1,5 +1,5 @@
 use Rattle.std.proofs.Common.{arith}
-use Rattle.re_tool.proofs.PassedLines.{reads_none, reads_pass, reads_fill}
+use Rattle.re_tool.proofs.PassedLines.{reads_none, reads_pass, reads_fill, reads_fails}
 use Rattle.re_tool.proofs.reader.Reader.next.Goals as goal
 
 pub pieces-init : goal.pieces-init
@@ -15,7 +15,7 @@ pieces-preserved g c =
     let s = rw c.if-found.false at c.in-Ok.ensures in
     let e = rw c.in-Ok-Some.field-0-is at c.in-Ok-Some.ensures in
     record {
-      reads = reads_fill _ _ _ _ _ _ _ _ _ (reads_pass _ _ _ _ _ _ _ _ _ c.pieces.invariant.reads s.0) s.1 e.0;
+      reads = reads_fill _ _ _ _ _ _ _ _ (reads_pass _ _ _ _ _ _ _ _ _ c.pieces.invariant.reads s.0) s.1 e.0;
       few = e.1;
     }
 
@@ -23,16 +23,16 @@ pub returns-in-Ok-End : goal.returns-in-Ok-End
 returns-in-Ok-End g c =
     let s = rw c.if-found.false at c.in-Ok.ensures in
     let e = rw c.in-Ok-End.field-0-is at c.in-Ok-End.ensures in
-    (reads_fill _ _ _ _ _ _ _ _ _ (reads_pass _ _ _ _ _ _ _ _ _ c.pieces.invariant.reads s.0) s.1 e.0, e.1, e.2, e.3)
+    (reads_fill _ _ _ _ _ _ _ _ (reads_pass _ _ _ _ _ _ _ _ _ c.pieces.invariant.reads s.0) s.1 e.0, e.1, e.2, e.3)
 
 pub returns-in-Ok-TooLong : goal.returns-in-Ok-TooLong
 returns-in-Ok-TooLong g c =
     let s = rw c.if-found.false at c.in-Ok.ensures in
     let e = rw c.in-Ok-TooLong.field-0-is at c.in-Ok-TooLong.ensures in
-    (reads_fill _ _ _ _ _ _ _ _ _ (reads_pass _ _ _ _ _ _ _ _ _ c.pieces.invariant.reads s.0) s.1 e.0, e.1, e.2)
+    (reads_fill _ _ _ _ _ _ _ _ (reads_pass _ _ _ _ _ _ _ _ _ c.pieces.invariant.reads s.0) s.1 e.0, e.1, e.2)
 
 pub returns-in-Err : goal.returns-in-Err
 returns-in-Err g c =
     let s = rw c.if-found.false at c.in-Ok.ensures in
     let e = c.in-Err.ensures in
-    (reads_fill _ _ _ _ _ _ _ _ _ (reads_pass _ _ _ _ _ _ _ _ _ c.pieces.invariant.reads s.0) s.1 e.0, e.1, e.2)
+    (reads_fails _ _ _ _ _ _ _ _ (reads_pass _ _ _ _ _ _ _ _ _ c.pieces.invariant.reads s.0) s.1 e.0 e.1 e.2, omega (arith, e.1, c.pieces.invariant.few, s.0.taken), e.2)
