@@ -1,5 +1,6 @@
 pub mod Acts
 pub mod Does
+pub mod Elsewhere
 pub mod Honest
 pub mod Images
 pub mod Moments
@@ -7,3 +8,4 @@ pub mod Ops
 pub mod Ports
 pub mod Safe
 pub mod Steps
+pub mod Written

@@ -1,5 +1,5 @@
 -- A file that is changed by one synced change after another.
-use Rattle.std.proofs.Common.{◌≡◌, inl, inr, ℕ, List, [], ◌∷◌, length, take, refl, sym, ◌∙◌, ap, subst, arith}
+use Rattle.std.proofs.Common.{◌≡◌, inl, inr, ℕ, List, [], ◌∷◌, ◌++◌, length, take, refl, sym, ◌∙◌, ap, subst, arith, append_assoc}
 use Rattle.std.proofs.lemmas.List.{take_all}
 use Rattle.re_outside.specs.Listed.{plain}
 use Rattle.re_outside.specs.Image.{IsTorn, IsCutShort, written}
@@ -7,9 +7,11 @@ use Rattle.re_outside.specs.declared.step.Step.TheVariants as steps
 use Rattle.re_outside.specs.declared.step.Call.TheVariants as calls
 use Rattle.re_outside.specs.Trace.{Past, with_steps, content_of, IsCrashImageOf}
 use Rattle.re_outside.specs.Moment.{Leaves, Changes, IsSettled, OnlyMoves}
-use Rattle.re_outside.specs.Plan.{FailsTo, IsSafe, FileChange, WriteAt, CutAt, synced_steps, KeepSafe}
+use Rattle.re_outside.specs.Plan.{FailsTo, IsSafe, FileChange, WriteAt, CutAt, synced_steps, all_changed, KeepSafe}
 use Rattle.re_outside.proofs.Images.{cut_done, cut_failed}
 use Rattle.re_outside.proofs.Steps.{write_reads, sync_settles, torn_same, changes_by, is_cut, is_failed, reads_more, only_trans, only_moves, is_synced}
+use Rattle.re_outside.specs.declared.step.Step.{Step}
+use Rattle.re_outside.proofs.Moments.{goes_nothing}
 use Rattle.re_outside.proofs.Safe.{write_leaves, failed_write_leaves, failed_sync_leaves}
 
 short_same : (n : ℕ) (file : List ℕ) → IsCutShort n file file
@@ -22,6 +24,9 @@ failed_cut_changes : (f n : ℕ) (now new : Past) → FailsTo (steps.Cut now.dev
 failed_cut_changes f n now new (inl is) = subst (Changes f (IsCutShort n) now) (sym is) (record { images = λ file image. (file, image, short_same n file); others = refl })
 failed_cut_changes f n now new (inr (left, honest, is)) =
     subst (Changes f (IsCutShort n) now) (sym is) (changes_by f now _ _ (is_failed calls.Cut now.device f n [] left _ refl refl) _ refl (λ was file. cut_failed (content_of now f) n left was file honest))
+
+two : (now : Past) (s t : Step) (plan : List Step) → with_steps (with_steps (with_steps now (s ∷ [])) (t ∷ [])) plan ≡ with_steps now (s ∷ t ∷ plan)
+two now s t plan = λ i. record { device = now.device; start = now.start; trace = (append_assoc (now.trace ++ s ∷ []) (t ∷ []) plan ∙ append_assoc now.trace (s ∷ []) (t ∷ plan)) i }
 
 module _ (f : ℕ) (Q : List ℕ → Type 0) (old : Past) where
   settled_leaves : (file : List ℕ) (now : Past) → OnlyMoves f old now → IsSettled f file now → Q file → Leaves f Q old now
@@ -65,3 +70,17 @@ module _ (f : ℕ) (Q : List ℕ → Type 0) (old : Past) where
           ops_safe ops (take n file) next same (only_trans f old mid next same there.others (only_moves f mid _ _ (is_synced mid.device f))) synced keep.1,
         ),
       )
+
+-- after changes that were each synced the file is settled
+pub ops_settle : (f : ℕ) (ops : List FileChange) (file : List ℕ) (now : Past) → IsSettled f file now → IsSettled f (all_changed file ops) (with_steps now (synced_steps now.device f ops))
+ops_settle f [] file now settled = subst (IsSettled f file) (goes_nothing now) settled
+ops_settle f (WriteAt at bytes ∷ ops) file now settled =
+    let mid = with_steps now (steps.Write now.device f at (plain bytes) ∷ []) in
+    let next = with_steps mid (steps.Sync now.device f ∷ []) in
+    let reads : content_of mid f ≡ written file at bytes = write_reads f at bytes now mid refl ∙ ap (λ r. written r at bytes) settled.content in
+    subst (IsSettled f (all_changed (written file at bytes) ops)) (two now _ _ (synced_steps now.device f ops)) (ops_settle f ops (written file at bytes) next (sync_settles f (written file at bytes) mid next reads refl))
+ops_settle f (CutAt n ∷ ops) file now settled =
+    let mid = with_steps now (steps.Cut now.device f n ∷ []) in
+    let next = with_steps mid (steps.Sync now.device f ∷ []) in
+    let reads : content_of mid f ≡ take n file = reads_more f now _ _ (is_cut now.device f n) ∙ ap (take n) settled.content in
+    subst (IsSettled f (all_changed (take n file) ops)) (two now _ _ (synced_steps now.device f ops)) (ops_settle f ops (take n file) next (sync_settles f (take n file) mid next reads refl))

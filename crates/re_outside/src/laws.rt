@@ -1,0 +1,80 @@
+//! What can be relied on of files, of what a stop may leave of them, and of calls that are made one after another.
+ghost use Rattle.std.specs.Prelude.{◌≡◌, ◌≢◌, ◌⊎◌, ◌+◌, ◌-◌, ◌<◌, ◌≤◌, ◌++◌, [], ◌∷◌, false, true, max, length, slice_index, take, List, ℕ};
+ghost use Rattle.re_outside.specs.FileAct.{FileAct, Wrote, CutTo, Synced, WriteFailed, CutFailed, SyncFailed};
+ghost use Rattle.re_outside.specs.Image.{written, content, is_sync, IsCrashImage, IsChanged, IsTorn, IsCutShort, IsHonest, AreHonest};
+ghost use Rattle.re_outside.specs.Moment.{Throughout, IsKept, OnlyMoves, OnlyDeviceMoves, Leaves, IsSettled};
+ghost use Rattle.re_outside.specs.Outside.{said};
+ghost use Rattle.re_outside.specs.Plan.{FailsTo, StopsAt, IsSafe, FileChange, KeepSafe, synced_steps, all_changed};
+ghost use Rattle.re_outside.specs.Trace.{Past, IsBefore, with_steps, is_of, content_of, IsCrashImageAt, IsCrashImageOf, IsJointImage};
+ghost use Rattle.re_outside.specs.declared.step.Step.{Step};
+
+/// What a file holds after a write: as many bytes as it had or as the write reaches, and at each
+/// place the byte written there, a zero in the gap before it, or the byte that was there. A cut to
+/// a length that isn't smaller leaves the file as it was.
+pub fn written_law()
+    ensures length { (old bytes : List ℕ) (at : ℕ) → 0 < length bytes → length (written old at bytes) ≡ max (length old) (at + length bytes) }
+    ensures bytes { (old bytes : List ℕ) (at i : ℕ) → i < length bytes → slice_index (written old at bytes) (at + i) ≡ slice_index bytes i }
+    ensures gap { (old bytes : List ℕ) (at i : ℕ) → 0 < length bytes → length old ≤ i → i < at → slice_index (written old at bytes) i ≡ 0 }
+    ensures others { (old bytes : List ℕ) (at i : ℕ) → i < length old → (i < at) ⊎ (at + length bytes ≤ i) → slice_index (written old at bytes) i ≡ slice_index old i }
+    ensures nothing { (old : List ℕ) (at : ℕ) → written old at [] ≡ old }
+    ensures cut { (old : List ℕ) (n : ℕ) → length old ≤ n → take n old ≡ old }
+{}
+
+/// What a stop may leave of one file.
+///
+/// Before any act it is the file as it was, and after a successful sync what reads give. One act
+/// more changes what a stop might have left before it. What reads give is always one of those,
+/// where each failed act left to reads what such a call may leave.
+pub fn image_law()
+    ensures start { (start file : List ℕ) → IsCrashImage start [] file → file ≡ start }
+    ensures synced { (start file : List ℕ) (acts : List FileAct) → IsCrashImage start (acts ++ Synced ∷ []) file → file ≡ content start acts }
+    ensures more { (start file : List ℕ) (acts : List FileAct) (act : FileAct) → is_sync act ≡ false → IsCrashImage start (acts ++ act ∷ []) file → (was : List ℕ) × IsCrashImage start acts was × IsChanged (content start acts) act was file }
+    ensures reads { (start : List ℕ) (acts : List FileAct) → AreHonest start acts → IsCrashImage start acts (content start acts) }
+    ensures reads_on { (start : List ℕ) (acts : List FileAct) (act : FileAct) → IsHonest (content start acts) act → IsCrashImage start acts (content start acts) → IsCrashImage start (acts ++ act ∷ []) (content start (acts ++ act ∷ [])) }
+{}
+
+/// What one act changes of what a stop might have left before it.
+pub fn act_law()
+    ensures write { (now bytes was file : List ℕ) (at : ℕ) → IsChanged now (Wrote at bytes) was file → IsTorn (length now) at (length bytes) was file }
+    ensures failed_write { (now bytes left was file : List ℕ) (at : ℕ) → IsHonest now (WriteFailed at bytes left) → IsChanged now (WriteFailed at bytes left) was file → IsTorn (length now) at (length bytes) was file }
+    ensures cut { (now was file : List ℕ) (n : ℕ) → IsChanged now (CutTo n) was file → IsCutShort n was file }
+    ensures failed_cut { (now left was file : List ℕ) (n : ℕ) → IsHonest now (CutFailed n left) → IsChanged now (CutFailed n left) was file → IsCutShort n was file }
+    ensures failed_sync { (now was file : List ℕ) → IsChanged now SyncFailed was file → file ≡ was }
+{}
+
+/// Steps of one file change nothing of another file, and steps of one device nothing of another
+/// device, nor do they say anything.
+///
+/// What a stop leaves of all devices is taken at one moment of the joint trace; so, where only one
+/// device has moved, the others' files are ones that a stop might have left before.
+pub fn elsewhere_law()
+    ensures file { (old now : Past) (f d g : ℕ) → IsBefore old now → OnlyMoves f old now → (d ≢ old.device) ⊎ (g ≢ f) → IsKept d g old now }
+    ensures device { (old now : Past) (d g : ℕ) → IsBefore old now → OnlyDeviceMoves old now → d ≢ old.device → IsKept d g old now }
+    ensures joint { (old now : Past) (files : ℕ → ℕ → List ℕ) → IsBefore old now → OnlyDeviceMoves old now → IsJointImage now files → (d g : ℕ) → d ≢ old.device → IsCrashImageAt old d g (files d g) }
+    ensures both { (old now : Past) (f : ℕ) → OnlyMoves f old now → OnlyDeviceMoves old now }
+    ensures quiet { (old now : Past) → OnlyDeviceMoves old now → said now.trace ≡ said old.trace }
+{}
+
+/// Conditions on a moment, and on what a stop leaves of one file.
+pub trait Condition {
+    ghost use Rattle.std.specs.Prelude.{List, ℕ};
+    ghost use Rattle.re_outside.specs.Trace.{Past};
+
+    ghost at: { Past → Type 0 };
+
+    ghost of: { List ℕ → Type 0 };
+}
+
+/// What is safe at each step of a plan holds at each moment between two states, whether all its
+/// calls came through or one of them failed.
+///
+/// A plan of changes of a settled file, each synced before the next, is safe for a condition on
+/// the file where each file has it that a stop within one of the changes may leave; and it
+/// leaves the file settled.
+pub fn safety_law<C: Condition>()
+    ensures done { (plan : List Step) (old new : Past) → IsSafe C.at plan old → new ≡ with_steps old plan → Throughout old new C.at }
+    ensures stopped { (plan : List Step) (calls at : ℕ) (old new : Past) → IsSafe C.at plan old → StopsAt plan calls at old new → Throughout old new C.at }
+    ensures joined { (old mid new : Past) → Throughout old mid C.at → Throughout mid new C.at → Throughout old new C.at }
+    ensures changes { (old : Past) (f : ℕ) (file : List ℕ) (changes : List FileChange) → IsSettled f file old → KeepSafe C.of file changes → IsSafe (Leaves f C.of old) (synced_steps old.device f changes) old }
+    ensures settled { (old : Past) (f : ℕ) (file : List ℕ) (changes : List FileChange) → IsSettled f file old → IsSettled f (all_changed file changes) (with_steps old (synced_steps old.device f changes)) }
+{}
