@@ -1,7 +1,9 @@
 pub mod Acts
 pub mod Does
 pub mod Elsewhere
+pub mod Frames
 pub mod Honest
+pub mod Lifted
 pub mod Images
 pub mod Moments
 pub mod Ops
