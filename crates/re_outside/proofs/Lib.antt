@@ -10,4 +10,5 @@ pub mod Ops
 pub mod Ports
 pub mod Safe
 pub mod Steps
+pub mod Stores
 pub mod Written

@@ -3,7 +3,8 @@ ghost use Rattle.std.specs.Prelude.{◌≡◌, ◌≢◌, ◌⊎◌, ◌+◌, �
 ghost use Rattle.re_outside.specs.FileAct.{FileAct, Wrote, CutTo, Synced, WriteFailed, CutFailed, SyncFailed};
 ghost use Rattle.re_outside.specs.Image.{written, content, is_sync, IsCrashImage, IsChanged, IsTorn, IsCutShort, IsHonest, AreHonest};
 ghost use Rattle.re_outside.specs.Moment.{Throughout, IsKept, OnlyMoves, OnlyDeviceMoves, Leaves, IsSettled};
-ghost use Rattle.re_outside.specs.Outside.{said};
+ghost use Rattle.re_outside.specs.Frame.{HasFrame, HasBadFrame, HasGeneration, StoreFrame, HasStoreFrame};
+ghost use Rattle.re_outside.specs.Outside.{said, FaultKind, Faults, failures, AreOutputs, AreSays};
 ghost use Rattle.re_outside.specs.Plan.{FailsTo, StopsAt, IsSafe, FileChange, KeepSafe, synced_steps, all_changed};
 ghost use Rattle.re_outside.specs.Trace.{Past, IsBefore, with_steps, is_of, content_of, IsCrashImageAt, IsCrashImageOf, IsJointImage};
 ghost use Rattle.re_outside.specs.declared.step.Step.{Step};
@@ -77,4 +78,19 @@ pub fn safety_law<C: Condition>()
     ensures joined { (old mid new : Past) → Throughout old mid C.at → Throughout mid new C.at → Throughout old new C.at }
     ensures changes { (old : Past) (f : ℕ) (file : List ℕ) (changes : List FileChange) → IsSettled f file old → KeepSafe C.of file changes → IsSafe (Leaves f C.of old) (synced_steps old.device f changes) old }
     ensures settled { (old : Past) (f : ℕ) (file : List ℕ) (changes : List FileChange) → IsSettled f file old → IsSettled f (all_changed file changes) (with_steps old (synced_steps old.device f changes)) }
+{}
+
+/// What the two files of a device are is one thing: blank, refused in one file at one place, or a
+/// store of one snapshot and one list of records in one of them.
+pub fn frame_law()
+    ensures frame { (file snapshot other : List ℕ) (bodies others : List (List ℕ)) → HasFrame file snapshot bodies → HasFrame file other others → (snapshot ≡ other) × (bodies ≡ others) }
+    ensures refusal { (file snapshot : List ℕ) (bodies : List (List ℕ)) (place : ℕ) → HasFrame file snapshot bodies → HasBadFrame file place → ⊥ }
+    ensures place { (file : List ℕ) (place other : ℕ) → HasBadFrame file place → HasBadFrame file other → place ≡ other }
+    ensures generation { (file : List ℕ) (g h : ℕ) → HasGeneration file g → HasGeneration file h → g ≡ h }
+    ensures store { (first second : List ℕ) (frame other : StoreFrame) → HasStoreFrame first second frame → HasStoreFrame first second other → frame ≡ other }
+{}
+
+/// A run that reads and says without a fault leaves pieces of output alone among its steps.
+pub fn output_law()
+    ensures says { (steps : List Step) (faults : Faults) → AreOutputs steps → ((kind : FaultKind) → failures steps kind ≤ faults kind) → ((kind : FaultKind) → faults kind ≡ 0) → AreSays steps }
 {}
