@@ -1,5 +1,5 @@
 -- What a disk did through a port, the outside behind it did.
-use Rattle.std.specs.Prelude.{◌==◌, if◌then◌else◌}
+use Rattle.std.specs.Prelude.{◌==◌, if◌then◌else◌, Result, Ok, Err, OnOk, OnErr, MatchResult}
 use Rattle.std.proofs.Common.{◌≡◌, ◌⊎◌, inl, inr, ℕ, ◌+◌, ◌≤◌, Bool, true, false, List, [], ◌∷◌, ◌++◌, refl, sym, ◌∙◌, ap, subst, arith, append_assoc}
 use Rattle.std.proofs.lemmas.Bool.Decides.{nat_tests, eqb_tells}
 use Rattle.re_outside.specs.Listed.{plain}
@@ -25,9 +25,10 @@ kind_is d Input e = absurd (cc)
 kind_is d Output e = absurd (cc)
 kind_is d (Disk n) e = elim (eqb_tells d n) [ inl same ↦ ap Disk same.1 | inr other ↦ absurd (let h = other.0 in cc) ]
 
-pub lifted : (name d n : ℕ) (a b : Seen) (added : List Step) → (a.told ≡ true → past_in d b ≡ with_steps (past_in d a) added) → rest_in name d b ≡ rest_in name d a
+-- what is seen of a disk at two moments says how the outside has moved
+pub lifted : (name later d n : ℕ) (a b : Seen) (added : List Step) → (a.told ≡ true → past_in d b ≡ with_steps (past_in d a) added) → rest_in later d b ≡ rest_in name d a
     → Counts n (disk_faults d a) (disk_faults d b) → ((k : FaultKind) → failures added k ≤ several n d k) → Moves a b [] added (several n d)
-lifted name d n a b added past same own counted = record {
+lifted name later d n a b added past same own counted = record {
   told = told;
   left = λ t. sym (shown a.told b.told a.left b.left [] told (ap (λ (r : Rest). r.left) same) t);
   start = λ t. ap (λ p. p.start) (past t);
@@ -44,6 +45,29 @@ lifted name d n a b added past same own counted = record {
         let kept : b.faults k ≡ a.faults k =
             ap (λ (c : Bool). if c then 0 else b.faults k) (sym e) ∙ (ap (λ (r : Rest). r.faults k) same ∙ ap (λ (c : Bool). if c then 0 else a.faults k) e) in
         subst (λ m. Counts m (a.faults k) (b.faults k)) (ap (λ (c : Bool). if c then n else 0) (sym e)) (subst (Counts 0 (a.faults k)) (sym kept) (stays (a.faults k)))
+
+-- the same where the port was made from an outside of these values, and its own given back to it
+pub through_port : {O : Type 0} (seen : O → Seen) (name later d e f n : ℕ) (a b c z : O) (added : List Step) → e ≡ d → b ≡ a → f ≡ e → z ≡ c
+    → ((seen b).told ≡ true → past_in f (seen c) ≡ with_steps (past_in e (seen b)) added) → rest_in later f (seen c) ≡ rest_in name e (seen b)
+    → Counts n (disk_faults e (seen b)) (disk_faults f (seen c)) → ((k : FaultKind) → failures added k ≤ several n d k) → Moves (seen a) (seen z) [] added (several n d)
+through_port seen name later d e f n a b c z added same_device from kept to past same own counted =
+    subst (λ x. Moves (seen a) (seen x) [] added (several n d)) (sym to) (subst (λ x. Moves (seen x) (seen c) [] added (several n d)) from
+    (moved (subst (λ i. (k : FaultKind) → failures added k ≤ several n i k) (sym same_device) counted)))
+  where
+    moved : ((k : FaultKind) → failures added k ≤ several n e k) → Moves (seen b) (seen c) [] added (several n d)
+    moved all = subst (λ i. Moves (seen b) (seen c) [] added (several n i)) same_device (lifted name later e n (seen b) (seen c) added
+      (λ t. subst (λ i. past_in i (seen c) ≡ with_steps (past_in e (seen b)) added) kept (past t))
+      (subst (λ i. rest_in later i (seen c) ≡ rest_in name e (seen b)) kept same)
+      (subst (λ i. Counts n (disk_faults e (seen b)) (disk_faults i (seen c))) kept own) all)
+
+-- what a call says of each of its two answers
+pub on_ok : {T : Type 0} {E : Type 0} (r : Result T E) (I A B C Q : Type 0) → (I → OnOk r A) → MatchResult r (λ _. B) (λ _. C) → ((I → A) → B → Q) → OnOk r Q
+on_ok (Ok x) I A B C Q p q f = f p q
+on_ok (Err e) I A B C Q p q f = tt
+
+pub on_err : {T : Type 0} {E : Type 0} (r : Result T E) (I A B C Q : Type 0) → (I → OnErr r A) → MatchResult r (λ _. B) (λ _. C) → ((I → A) → C → Q) → OnErr r Q
+on_err (Ok x) I A B C Q p q f = tt
+on_err (Err e) I A B C Q p q f = f p q
 
 -- a count that has risen counts one fault
 pub rose_counts : (a b : ℕ) → Rose a b → Counts 1 a b
