@@ -4,9 +4,12 @@ use Rattle.std.proofs.Common.{◌≡◌, ◌≢◌, ◌⊎◌, inl, inr, ℕ, Bo
 use Rattle.std.proofs.lemmas.Bool.Decides.{nat_tests}
 use Rattle.re_outside.specs.FileAct.{FileAct, Wrote, CutTo, Synced}
 use Rattle.re_outside.specs.Image.{content, IsCrashImage}
-use Rattle.re_outside.specs.Trace.{act_of, acts_of, failed_act, is_of, is_on, is_file_call, elsewhere, elsewhere_on, Past, IsBefore, IsCrashImageAt, IsJointImage}
+use Rattle.re_outside.specs.Trace.{act_of, acts_of, failed_act, is_of, is_on, is_file_call, elsewhere, elsewhere_on, Past, with_steps, IsBefore, IsCrashImageAt, IsJointImage}
 use Rattle.re_outside.specs.Moment.{IsKept, OnlyMoves, OnlyDeviceMoves}
-use Rattle.re_outside.specs.Outside.{said}
+use Rattle.re_outside.specs.Listed.{Listed}
+use Rattle.re_outside.specs.Outside.{said, IsOutput, AreOutputs}
+use Rattle.std.proofs.lemmas.List.{append-nil}
+use Rattle.re_outside.proofs.Acts.{acts_of-append}
 use Rattle.re_outside.specs.declared.step.Step.{Step}
 use Rattle.re_outside.specs.declared.step.Step.TheVariants as steps
 use Rattle.re_outside.specs.declared.step.Call.{Call}
@@ -108,3 +111,47 @@ said_elsewhere d (s ∷ trace) = by_test s (said_elsewhere d trace) (is_on d s) 
 -- while only a device's files move, nothing is said
 pub quiet : (old now : Past) → OnlyDeviceMoves old now → said now.trace ≡ said old.trace
 quiet old now only = sym (said_elsewhere old.device now.trace) ∙ ap said only ∙ said_elsewhere old.device old.trace
+
+-- ---- steps that are no acts of a file
+
+-- steps that were nothing to a file leave it
+pub kept_by : (d g : ℕ) (old : Past) (more : List Step) → acts_of d g more ≡ [] → IsKept d g old (with_steps old more)
+kept_by d g old more none =
+    let same : acts_of d g (old.trace ++ more) ≡ acts_of d g old.trace = acts_of-append d g old.trace more ∙ (ap (λ (l : List FileAct). acts_of d g old.trace ++ l) none ∙ append-nil (acts_of d g old.trace)) in
+    record {
+      content = ap (content (old.start d g)) same;
+      images = λ file image. subst (λ (l : List FileAct). IsCrashImage (old.start d g) l file) same image;
+    }
+
+neither : (b : Bool) (l : List FileAct) → l ≡ [] → (if b then l else []) ≡ []
+neither true l e = e
+neither false l e = refl
+
+failed_output : (call : Call) (at : ℕ) (bytes left : List ℕ) → IsOutput call → failed_act call at bytes left ≡ []
+failed_output calls.Take at bytes left o = refl
+failed_output calls.Say at bytes left o = refl
+failed_output calls.Size at bytes left o = absurd o
+failed_output calls.Fetch at bytes left o = absurd o
+failed_output calls.Write at bytes left o = absurd o
+failed_output calls.Cut at bytes left o = absurd o
+failed_output calls.Sync at bytes left o = absurd o
+
+output_acts : (d g : ℕ) (more : List Step) → AreOutputs more → acts_of d g more ≡ []
+output_acts d g [] o = refl
+output_acts d g (steps.Say bytes ∷ more) o = output_acts d g more o
+output_acts d g (steps.Write device file at bytes ∷ more) o = absurd o
+output_acts d g (steps.Cut device file n ∷ more) o = absurd o
+output_acts d g (steps.Sync device file ∷ more) o = absurd o
+output_acts d g (steps.Fail call device file at bytes left ∷ more) o =
+    ap (λ (l : List FileAct). l ++ acts_of d g more) (neither (d == device && g == file) (failed_act call at bytes.items left.items) (failed_output call at bytes.items left.items o.0)) ∙ output_acts d g more o.1
+
+-- what is taken and said leaves all files
+pub kept_by_outputs : (d g : ℕ) (old : Past) (more : List Step) → AreOutputs more → IsKept d g old (with_steps old more)
+kept_by_outputs d g old more o = kept_by d g old more (output_acts d g more o)
+
+-- a failed call that asks for a length or for bytes leaves all files
+pub kept_by_size : (d g device file at : ℕ) (bytes left : Listed ℕ) (old : Past) → IsKept d g old (with_steps old (steps.Fail calls.Size device file at bytes left ∷ []))
+kept_by_size d g device file at bytes left old = kept_by d g old _ (ap (λ (l : List FileAct). l ++ []) (neither (d == device && g == file) [] refl))
+
+pub kept_by_fetch : (d g device file at : ℕ) (bytes left : Listed ℕ) (old : Past) → IsKept d g old (with_steps old (steps.Fail calls.Fetch device file at bytes left ∷ []))
+kept_by_fetch d g device file at bytes left old = kept_by d g old _ (ap (λ (l : List FileAct). l ++ []) (neither (d == device && g == file) [] refl))

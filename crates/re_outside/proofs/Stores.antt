@@ -1,9 +1,13 @@
 -- Two files are one store, or are refused at one place.
 use Rattle.std.specs.Prelude.{◌==◌, ◌||◌, not, nat_le}
-use Rattle.std.specs.Int.{w32, w64, to_be_bytes}
-use Rattle.std.proofs.Common.{◌≡◌, ◌⊎◌, inl, inr, ℕ, ◌+◌, ◌^◌, ◌<◌, ◌≤◌, Bool, true, false, List, [], ◌∷◌, ◌++◌, length, slice_index, refl, sym, ◌∙◌, ap, subst, arith, append_assoc, length-append}
+use Rattle.std.specs.Int.{w32, w64, to_be_bytes, from_be_bytes}
+use Rattle.std.specs.List.{flat_map}
+use Rattle.std.proofs.lemmas.List.{take-append-le}
+use Rattle.std.proofs.lemmas.Nat.{from_be_bytes-to_be_bytes_8}
+use Rattle.std.proofs.Math.Seq.{take-append_seam}
+use Rattle.std.proofs.Common.{◌≡◌, ◌⊎◌, inl, inr, ℕ, ◌+◌, ◌^◌, ◌<◌, ◌≤◌, Bool, true, false, List, [], ◌∷◌, ◌++◌, length, slice_index, take, refl, sym, ◌∙◌, ap, subst, arith, append_assoc, length-append}
 use Rattle.std.proofs.lemmas.Bool.Decides.{nat_tests}
-use Rattle.re_outside.specs.Frame.{IsSnapshotLength, HasNoLength, IsGeneration, is_blank, HasGeneration, HasNoGeneration, IsBadHead, HasFrame, HasBadFrame, StoreFrame, Blank, Bad, Store, IsOlder, HasHead, Counting, HasBadHead, HasStoreFrame, IsClosed}
+use Rattle.re_outside.specs.Frame.{IsSnapshotLength, framed, opened, generation, ReadsTo, HasNoLength, IsGeneration, is_blank, HasGeneration, HasNoGeneration, IsBadHead, HasFrame, HasBadFrame, StoreFrame, Blank, Bad, Store, IsOlder, HasHead, Counting, HasBadHead, HasStoreFrame, IsClosed}
 use Rattle.re_outside.proofs.Frames.{split_length, split_generation, one_frame, frame_not_bad, one_place}
 
 low_length : (n : ℕ) → IsSnapshotLength n → n < 2 ^ 32
@@ -70,6 +74,16 @@ older_readable file g (inr (h, has, less)) = inr (h, has)
 not_older : (file : List ℕ) (g h : ℕ) → HasGeneration file g → IsOlder file h → g < h
 not_older file g h has (inl blank) = both (is_blank file) blank (not_blank file g has)
 not_older file g h has (inr (k, other, less)) = omega (arith, one_generation file g k has other)
+
+-- the generation of a file is that of its snapshot
+pub generation_read : (file s : List ℕ) (bs : List (List ℕ)) (g : ℕ) → HasGeneration file g → HasFrame file s bs → generation s ≡ g
+generation_read file s bs g (n, rest, is, fits, number) (t, p, shut) =
+    let tail = flat_map opened bs ++ t in
+    let whole : file ≡ 1 ∷ (framed s ++ tail) = p.whole ∙ append_assoc (opened s) (flat_map opened bs) t in
+    let body : to_be_bytes w32 n ++ (to_be_bytes w64 g ++ rest) ≡ to_be_bytes w32 (length s) ++ (s ++ tail) = sym (behind_gate file _ n g rest whole is) ∙ append_assoc (to_be_bytes w32 (length s)) s tail in
+    let parts = split_length n (length s) (to_be_bytes w64 g ++ rest) (s ++ tail) (low_length n fits) (low_length (length s) p.snapshot_length) body in
+    let first : take 8 s ≡ to_be_bytes w64 g = sym (take-append-le 8 s tail p.snapshot_length.0) ∙ (ap (take 8) (sym parts.1) ∙ take-append_seam (to_be_bytes w64 g) rest) in
+    ap (from_be_bytes w64) first ∙ from_be_bytes-to_be_bytes_8 g (low_generation g number)
 
 -- ---- two files
 

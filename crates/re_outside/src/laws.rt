@@ -3,11 +3,14 @@ ghost use Rattle.std.specs.Prelude.{◌≡◌, ◌≢◌, ◌⊎◌, ◌+◌, �
 ghost use Rattle.re_outside.specs.FileAct.{FileAct, Wrote, CutTo, Synced, WriteFailed, CutFailed, SyncFailed};
 ghost use Rattle.re_outside.specs.Image.{written, content, is_sync, IsCrashImage, IsChanged, IsTorn, IsCutShort, IsHonest, AreHonest};
 ghost use Rattle.re_outside.specs.Moment.{Throughout, IsKept, OnlyMoves, OnlyDeviceMoves, Leaves, IsSettled};
-ghost use Rattle.re_outside.specs.Frame.{HasFrame, HasBadFrame, HasGeneration, StoreFrame, HasStoreFrame};
+ghost use Rattle.re_outside.specs.Frame.{generation, HasFrame, HasBadFrame, HasGeneration, StoreFrame, HasStoreFrame};
 ghost use Rattle.re_outside.specs.Outside.{said, FaultKind, Faults, failures, AreOutputs, AreSays};
 ghost use Rattle.re_outside.specs.Plan.{FailsTo, StopsAt, IsSafe, FileChange, KeepSafe, synced_steps, all_changed};
 ghost use Rattle.re_outside.specs.Trace.{Past, IsBefore, with_steps, is_of, content_of, IsCrashImageAt, IsCrashImageOf, IsJointImage};
+ghost use Rattle.re_outside.specs.Listed.{Listed};
+ghost use Rattle.re_outside.specs.declared.step.Call.TheVariants.{Size, Fetch};
 ghost use Rattle.re_outside.specs.declared.step.Step.{Step};
+ghost use Rattle.re_outside.specs.declared.step.Step.TheVariants.{Fail};
 
 /// What a file holds after a write: as many bytes as it had or as the write reaches, and at each
 /// place the byte written there, a zero in the gap before it, or the byte that was there. A cut to
@@ -44,7 +47,8 @@ pub fn act_law()
 {}
 
 /// Steps of one file change nothing of another file, and steps of one device nothing of another
-/// device, nor do they say anything.
+/// device, nor do they say anything. What is taken or said changes no file, and neither does a
+/// call that asked for a length or for bytes and failed.
 ///
 /// What a stop leaves of all devices is taken at one moment of the joint trace; so, where only one
 /// device has moved, the others' files are ones that a stop might have left before.
@@ -53,6 +57,9 @@ pub fn elsewhere_law()
     ensures device { (old now : Past) (d g : ℕ) → IsBefore old now → OnlyDeviceMoves old now → d ≢ old.device → IsKept d g old now }
     ensures joint { (old now : Past) (files : ℕ → ℕ → List ℕ) → IsBefore old now → OnlyDeviceMoves old now → IsJointImage now files → (d g : ℕ) → d ≢ old.device → IsCrashImageAt old d g (files d g) }
     ensures both { (old now : Past) (f : ℕ) → OnlyMoves f old now → OnlyDeviceMoves old now }
+    ensures outputs { (old : Past) (more : List Step) (d f : ℕ) → AreOutputs more → IsKept d f old (with_steps old more) }
+    ensures failed_size { (old : Past) (d f device file at : ℕ) (bytes content : Listed ℕ) → IsKept d f old (with_steps old (Fail Size device file at bytes content ∷ [])) }
+    ensures failed_fetch { (old : Past) (d f device file at : ℕ) (bytes content : Listed ℕ) → IsKept d f old (with_steps old (Fail Fetch device file at bytes content ∷ [])) }
     ensures quiet { (old now : Past) → OnlyDeviceMoves old now → said now.trace ≡ said old.trace }
 {}
 
@@ -87,6 +94,7 @@ pub fn frame_law()
     ensures refusal { (file snapshot : List ℕ) (bodies : List (List ℕ)) (place : ℕ) → HasFrame file snapshot bodies → HasBadFrame file place → ⊥ }
     ensures place { (file : List ℕ) (place other : ℕ) → HasBadFrame file place → HasBadFrame file other → place ≡ other }
     ensures generation { (file : List ℕ) (g h : ℕ) → HasGeneration file g → HasGeneration file h → g ≡ h }
+    ensures snapshot { (file snapshot : List ℕ) (bodies : List (List ℕ)) (g : ℕ) → HasGeneration file g → HasFrame file snapshot bodies → generation snapshot ≡ g }
     ensures store { (first second : List ℕ) (frame other : StoreFrame) → HasStoreFrame first second frame → HasStoreFrame first second other → frame ≡ other }
 {}
 
