@@ -1,4 +1,5 @@
 pub mod Acts
+pub mod Calls
 pub mod Does
 pub mod Elsewhere
 pub mod Frames
@@ -8,6 +9,7 @@ pub mod Images
 pub mod Moments
 pub mod Ops
 pub mod Ports
+pub mod Readings
 pub mod Safe
 pub mod Steps
 pub mod Stores

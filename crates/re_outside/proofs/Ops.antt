@@ -17,10 +17,10 @@ use Rattle.re_outside.proofs.Safe.{write_leaves, failed_write_leaves, failed_syn
 short_same : (n : ℕ) (file : List ℕ) → IsCutShort n file file
 short_same n file = record { no_shorter = omega arith; front = sym (take_all (length file) file (omega arith)) }
 
-cut_changes : (f n : ℕ) (now : Past) → Changes f (IsCutShort n) now (with_steps now (steps.Cut now.device f n ∷ []))
+pub cut_changes : (f n : ℕ) (now : Past) → Changes f (IsCutShort n) now (with_steps now (steps.Cut now.device f n ∷ []))
 cut_changes f n now = changes_by f now _ _ (is_cut now.device f n) _ refl (cut_done (content_of now f) n)
 
-failed_cut_changes : (f n : ℕ) (now new : Past) → FailsTo (steps.Cut now.device f n) now new → Changes f (IsCutShort n) now new
+pub failed_cut_changes : (f n : ℕ) (now new : Past) → FailsTo (steps.Cut now.device f n) now new → Changes f (IsCutShort n) now new
 failed_cut_changes f n now new (inl is) = subst (Changes f (IsCutShort n) now) (sym is) (record { images = λ file image. (file, image, short_same n file); others = refl })
 failed_cut_changes f n now new (inr (left, honest, is)) =
     subst (Changes f (IsCutShort n) now) (sym is) (changes_by f now _ _ (is_failed calls.Cut now.device f n [] left _ refl refl) _ refl (λ was file. cut_failed (content_of now f) n left was file honest))

@@ -1,16 +1,16 @@
 //! What can be relied on of files, of what a stop may leave of them, and of calls that are made one after another.
 ghost use Rattle.std.specs.Prelude.{◌≡◌, ◌≢◌, ◌⊎◌, ◌+◌, ◌-◌, ◌<◌, ◌≤◌, ◌++◌, [], ◌∷◌, false, true, max, length, slice_index, take, List, ℕ};
 ghost use Rattle.re_outside.specs.FileAct.{FileAct, Wrote, CutTo, Synced, WriteFailed, CutFailed, SyncFailed};
-ghost use Rattle.re_outside.specs.Image.{written, content, is_sync, IsCrashImage, IsChanged, IsTorn, IsCutShort, IsHonest, AreHonest};
-ghost use Rattle.re_outside.specs.Moment.{Throughout, IsKept, OnlyMoves, OnlyDeviceMoves, Leaves, IsSettled};
+ghost use Rattle.re_outside.specs.Image.{written, content, is_sync, IsCrashImage, IsChanged, IsTorn, IsCutShort, IsUnchanged, IsHonest, AreHonest};
+ghost use Rattle.re_outside.specs.Moment.{Throughout, IsKept, Changes, OnlyMoves, OnlyDeviceMoves, Leaves, IsSettled};
 ghost use Rattle.re_outside.specs.Frame.{generation, HasFrame, HasBadFrame, HasGeneration, StoreFrame, HasStoreFrame};
 ghost use Rattle.re_outside.specs.Outside.{said, FaultKind, Faults, failures, AreOutputs, AreSays};
 ghost use Rattle.re_outside.specs.Plan.{FailsTo, StopsAt, IsSafe, FileChange, KeepSafe, synced_steps, all_changed};
 ghost use Rattle.re_outside.specs.Trace.{Past, IsBefore, with_steps, is_of, content_of, IsCrashImageAt, IsCrashImageOf, IsJointImage};
-ghost use Rattle.re_outside.specs.Listed.{Listed};
+ghost use Rattle.re_outside.specs.Listed.{Listed, plain};
 ghost use Rattle.re_outside.specs.declared.step.Call.TheVariants.{Size, Fetch};
 ghost use Rattle.re_outside.specs.declared.step.Step.{Step};
-ghost use Rattle.re_outside.specs.declared.step.Step.TheVariants.{Fail};
+ghost use Rattle.re_outside.specs.declared.step.Step.TheVariants.{Write, Cut, Sync, Fail};
 
 /// What a file holds after a write: as many bytes as it had or as the write reaches, and at each
 /// place the byte written there, a zero in the gap before it, or the byte that was there. A cut to
@@ -44,6 +44,17 @@ pub fn act_law()
     ensures cut { (now was file : List ℕ) (n : ℕ) → IsChanged now (CutTo n) was file → IsCutShort n was file }
     ensures failed_cut { (now left was file : List ℕ) (n : ℕ) → IsHonest now (CutFailed n left) → IsChanged now (CutFailed n left) was file → IsCutShort n was file }
     ensures failed_sync { (now was file : List ℕ) → IsChanged now SyncFailed was file → file ≡ was }
+{}
+
+/// What one call changes of what a stop may leave of its file, whether it came through or failed.
+/// No other file moves. After a successful sync nothing but what reads give may be left.
+pub fn call_law()
+    ensures write { (old : Past) (f at : ℕ) (bytes : List ℕ) → Changes f (IsTorn (length (content_of old f)) at (length bytes)) old (with_steps old (Write old.device f at (plain bytes) ∷ [])) }
+    ensures failed_write { (old new : Past) (f at : ℕ) (bytes : List ℕ) → FailsTo (Write old.device f at (plain bytes)) old new → Changes f (IsTorn (length (content_of old f)) at (length bytes)) old new }
+    ensures cut { (old : Past) (f n : ℕ) → Changes f (IsCutShort n) old (with_steps old (Cut old.device f n ∷ [])) }
+    ensures failed_cut { (old new : Past) (f n : ℕ) → FailsTo (Cut old.device f n) old new → Changes f (IsCutShort n) old new }
+    ensures synced { (old : Past) (f : ℕ) → IsSettled f (content_of old f) (with_steps old (Sync old.device f ∷ [])) }
+    ensures failed_sync { (old new : Past) (f : ℕ) → FailsTo (Sync old.device f) old new → Changes f IsUnchanged old new }
 {}
 
 /// Steps of one file change nothing of another file, and steps of one device nothing of another
