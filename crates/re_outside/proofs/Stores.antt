@@ -75,15 +75,17 @@ not_older : (file : List ℕ) (g h : ℕ) → HasGeneration file g → IsOlder f
 not_older file g h has (inl blank) = both (is_blank file) blank (not_blank file g has)
 not_older file g h has (inr (k, other, less)) = omega (arith, one_generation file g k has other)
 
+-- the generation of a file is that of the snapshot behind its length
+pub generation_of : (file s tail : List ℕ) (g : ℕ) → HasGeneration file g → file ≡ 1 ∷ (framed s ++ tail) → IsSnapshotLength (length s) → generation s ≡ g
+generation_of file s tail g (n, rest, is, fits, number) whole size =
+    let body : to_be_bytes w32 n ++ (to_be_bytes w64 g ++ rest) ≡ to_be_bytes w32 (length s) ++ (s ++ tail) = sym (behind_gate file _ n g rest whole is) ∙ append_assoc (to_be_bytes w32 (length s)) s tail in
+    let parts = split_length n (length s) (to_be_bytes w64 g ++ rest) (s ++ tail) (low_length n fits) (low_length (length s) size) body in
+    let first : take 8 s ≡ to_be_bytes w64 g = sym (take-append-le 8 s tail size.0) ∙ (ap (take 8) (sym parts.1) ∙ take-append_seam (to_be_bytes w64 g) rest) in
+    ap (from_be_bytes w64) first ∙ from_be_bytes-to_be_bytes_8 g (low_generation g number)
+
 -- the generation of a file is that of its snapshot
 pub generation_read : (file s : List ℕ) (bs : List (List ℕ)) (g : ℕ) → HasGeneration file g → HasFrame file s bs → generation s ≡ g
-generation_read file s bs g (n, rest, is, fits, number) (t, p, shut) =
-    let tail = flat_map opened bs ++ t in
-    let whole : file ≡ 1 ∷ (framed s ++ tail) = p.whole ∙ append_assoc (opened s) (flat_map opened bs) t in
-    let body : to_be_bytes w32 n ++ (to_be_bytes w64 g ++ rest) ≡ to_be_bytes w32 (length s) ++ (s ++ tail) = sym (behind_gate file _ n g rest whole is) ∙ append_assoc (to_be_bytes w32 (length s)) s tail in
-    let parts = split_length n (length s) (to_be_bytes w64 g ++ rest) (s ++ tail) (low_length n fits) (low_length (length s) p.snapshot_length) body in
-    let first : take 8 s ≡ to_be_bytes w64 g = sym (take-append-le 8 s tail p.snapshot_length.0) ∙ (ap (take 8) (sym parts.1) ∙ take-append_seam (to_be_bytes w64 g) rest) in
-    ap (from_be_bytes w64) first ∙ from_be_bytes-to_be_bytes_8 g (low_generation g number)
+generation_read file s bs g has (t, p, shut) = generation_of file s (flat_map opened bs ++ t) g has (p.whole ∙ append_assoc (opened s) (flat_map opened bs) t) p.snapshot_length
 
 -- ---- two files
 

@@ -98,7 +98,7 @@ pub fn safety_law<C: Condition>()
     ensures settled { (old : Past) (f : ℕ) (file : List ℕ) (changes : List FileChange) → IsSettled f file old → IsSettled f (all_changed file changes) (with_steps old (synced_steps old.device f changes)) }
 {}
 
-/// What the two files of a device are is one thing: blank, refused in one file at one place, or a
+/// Two files of a device are always one thing, and one alone: blank, refused in one file at one place, or a
 /// store of one snapshot and one list of records in one of them.
 pub fn frame_law()
     ensures frame { (file snapshot other : List ℕ) (bodies others : List (List ℕ)) → HasFrame file snapshot bodies → HasFrame file other others → (snapshot ≡ other) × (bodies ≡ others) }
@@ -106,6 +106,7 @@ pub fn frame_law()
     ensures place { (file : List ℕ) (place other : ℕ) → HasBadFrame file place → HasBadFrame file other → place ≡ other }
     ensures generation { (file : List ℕ) (g h : ℕ) → HasGeneration file g → HasGeneration file h → g ≡ h }
     ensures snapshot { (file snapshot : List ℕ) (bodies : List (List ℕ)) (g : ℕ) → HasGeneration file g → HasFrame file snapshot bodies → generation snapshot ≡ g }
+    ensures some { (first second : List ℕ) → (frame : StoreFrame) × HasStoreFrame first second frame }
     ensures store { (first second : List ℕ) (frame other : StoreFrame) → HasStoreFrame first second frame → HasStoreFrame first second other → frame ≡ other }
 {}
 

@@ -1,5 +1,6 @@
 use Rattle.re_outside.proofs.Frames.{one_frame, frame_not_bad, one_place}
 use Rattle.re_outside.proofs.Stores.{one_generation, generation_read, one_store}
+use Rattle.re_outside.proofs.Readings.{some_store}
 use Rattle.re_outside.proofs.laws.frame_law.Goals as goal
 
 pub returns-clause-frame : goal.returns-clause-frame
@@ -19,3 +20,6 @@ returns-clause-store c = one_store
 
 pub returns-clause-snapshot : goal.returns-clause-snapshot
 returns-clause-snapshot c = λ file snapshot bodies g. generation_read file snapshot bodies g
+
+pub returns-clause-some : goal.returns-clause-some
+returns-clause-some c = some_store
