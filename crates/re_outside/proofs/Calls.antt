@@ -1,5 +1,5 @@
 -- What one call changes of what a stop may leave of its file.
-use Rattle.std.proofs.Common.{◌≡◌, inl, inr, ℕ, List, [], ◌∷◌, length, refl, sym, subst}
+use Rattle.std.proofs.Common.{inl, inr, ℕ, List, [], ◌∷◌, length, refl, sym, subst}
 use Rattle.re_outside.specs.Listed.{plain}
 use Rattle.re_outside.specs.FileAct.{SyncFailed}
 use Rattle.re_outside.specs.Image.{IsTorn, IsUnchanged}

@@ -1,10 +1,10 @@
 -- Steps one behind the other.
-use Rattle.std.specs.Prelude.{◌==◌, if◌then◌else◌}
+use Rattle.std.specs.Prelude.{if◌then◌else◌}
 use Rattle.std.proofs.lemmas.Bool.Decides.{nat_tests}
 use Rattle.std.proofs.Common.{arith, ℕ, ◌≡◌, ◌+◌, ◌≤◌, List, [], ◌∷◌, ◌++◌, take, drop, sym, ◌∙◌, ap, subst, refl, inl, inr, append_assoc, true, Bool}
 use Rattle.std.proofs.lemmas.List.{append-nil, take-append-drop, take-take, drop-take}
 use Rattle.re_outside.specs.Listed.{plain}
-use Rattle.re_outside.specs.Outside.{said, FaultKind, Input, Output, Disk, is_kind, AreSays, Faults, none, one_fault, input_fault, output_fault, fault_kind, plus, failures, Seen, Counts, Moves, IsOutput, AreOutputs, IsFailure, Fails, DoesWith, Does, BreaksWith, Breaks, IsAtEnd}
+use Rattle.re_outside.specs.Outside.{said, FaultKind, Input, Output, Disk, is_kind, AreSays, Faults, none, one_fault, input_fault, output_fault, fault_kind, plus, failures, Seen, Counts, Moves, IsOutput, AreOutputs, IsFailure, Fails, DoesWith, Does, Breaks, IsAtEnd}
 use Rattle.re_outside.specs.declared.step.Call.{Call}
 use Rattle.re_outside.specs.declared.step.Call.TheVariants as kind
 use Rattle.re_outside.specs.declared.step.Step.{Step}

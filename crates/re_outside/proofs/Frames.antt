@@ -1,11 +1,10 @@
 -- A file has one frame, or it is refused at one place.
-use Rattle.std.specs.Prelude.{◌==◌, ◌||◌, not, nat_le, if◌then◌else◌}
 use Rattle.std.specs.Int.{w32, w64, to_be_bytes, from_be_bytes}
 use Rattle.std.specs.List.{flat_map}
-use Rattle.std.proofs.Common.{◌≡◌, ◌≢◌, ◌⊎◌, inl, inr, ℕ, zero, suc, ◌+◌, ◌-◌, ◌^◌, ◌<◌, ◌≤◌, Bool, true, false, List, [], ◌∷◌, ◌++◌, length, slice_index, take, refl, sym, ◌∙◌, ap, subst, arith, append_assoc, length-append}
+use Rattle.std.proofs.Common.{◌≡◌, ◌⊎◌, inl, inr, ℕ, ◌+◌, ◌^◌, ◌<◌, List, [], ◌∷◌, ◌++◌, length, refl, sym, ◌∙◌, ap, subst, arith, append_assoc, length-append}
 use Rattle.std.proofs.lemmas.List.{append-nil}
 use Rattle.std.proofs.lemmas.Nat.{from_be_bytes-to_be_bytes_4, from_be_bytes-to_be_bytes_8}
-use Rattle.re_outside.specs.Frame.{IsSnapshotLength, IsRecordLength, AreRecords, framed, opened, HasNoLength, IsCutOff, IsRefusedBody, generation, IsGeneration, front, MayOpen, ReadsTo, IsClosed, IsRefusedGate, HasFrame, HasBadFrame}
+use Rattle.re_outside.specs.Frame.{IsSnapshotLength, IsRecordLength, AreRecords, framed, opened, IsCutOff, IsRefusedBody, generation, front, MayOpen, ReadsTo, IsClosed, IsRefusedGate, HasFrame, HasBadFrame}
 
 -- ---- parts of one list
 

@@ -62,13 +62,13 @@ act_kept now SyncFailed i honest within there out = refl
 past_end : (start : List ℕ) (acts : List FileAct) (i : ℕ) → AreHonest start acts → length start ≤ i → is_written start acts i ≡ false → length (content start acts) ≤ i
 past_end start [] i honest past out = past
 past_end start (a ∷ acts) i honest past out =
-    let none = either _ _ out in
+    let none = either (is_written_by start a i) (is_written (after start a) acts i) out in
     past_end (after start a) acts i honest.1 (act_past start a i honest.0 past none.0) none.1
 
 kept_byte : (start : List ℕ) (acts : List FileAct) (i : ℕ) → AreHonest start acts → i < length start → i < length (content start acts) → is_written start acts i ≡ false → slice_index (content start acts) i ≡ slice_index start i
 kept_byte start [] i honest within there out = refl
 kept_byte start (a ∷ acts) i honest within there out =
-    let none = either _ _ out in
+    let none = either (is_written_by start a i) (is_written (after start a) acts i) out in
     let inside : i < length (after start a) = elim (leb_tells (length (after start a)) i) [
       | inl short ↦ absurd (omega (arith, past_end (after start a) acts i honest.1 short.1 none.1))
       | inr long ↦ long.1
@@ -101,7 +101,7 @@ left_more start acts a honest left =
       no_shorter = omega (arith, least-snoc start acts a);
       no_longer = omega (arith, greatest-snoc start acts a);
       kept = λ i within there out.
-          let none = either _ _ (sym (is_written-snoc start acts a i) ∙ out) in
+          let none = either (is_written start acts i) (is_written_by now a i) (sym (is_written-snoc start acts a i) ∙ out) in
           elim (leb_tells (length now) i) [
             | inl past ↦ absurd (omega (arith, act_past now a i honest past.1 none.1))
             | inr here ↦ act_kept now a i honest here.1 there none.1 ∙ left.kept i within here.1 none.0

@@ -1,12 +1,11 @@
 -- What a disk did through a port, the outside behind it did.
-use Rattle.std.specs.Prelude.{◌==◌, if◌then◌else◌, Result, Ok, Err, OnOk, OnErr, MatchResult}
-use Rattle.std.proofs.Common.{◌≡◌, ◌⊎◌, inl, inr, ℕ, ◌+◌, ◌≤◌, Bool, true, false, List, [], ◌∷◌, ◌++◌, refl, sym, ◌∙◌, ap, subst, arith, append_assoc}
-use Rattle.std.proofs.lemmas.Bool.Decides.{nat_tests, eqb_tells}
-use Rattle.re_outside.specs.Listed.{plain}
+use Rattle.std.specs.Prelude.{if◌then◌else◌, Result, Ok, Err, OnOk, OnErr, MatchResult}
+use Rattle.std.proofs.Common.{◌≡◌, inl, inr, ℕ, ◌+◌, ◌≤◌, Bool, true, false, List, [], ◌∷◌, refl, sym, ◌∙◌, ap, subst, arith, append_assoc}
+use Rattle.std.proofs.lemmas.Bool.Decides.{eqb_tells}
 use Rattle.re_outside.specs.Trace.{Past, with_steps}
-use Rattle.re_outside.specs.Outside.{FaultKind, Input, Output, Disk, is_kind, Faults, disk_fault, failures, Counts, Rose, Seen, Moves}
+use Rattle.re_outside.specs.Outside.{FaultKind, Input, Output, Disk, is_kind, Faults, failures, Counts, Rose, Seen, Moves}
 use Rattle.re_outside.specs.Plan.{FailsTo, StopsAt}
-use Rattle.re_outside.specs.Port.{Rest, past_in, rest_in, other_faults, disk_faults}
+use Rattle.re_outside.specs.Port.{Rest, past_in, rest_in, disk_faults}
 use Rattle.re_outside.specs.declared.step.Step.{Step}
 use Rattle.re_outside.specs.declared.step.Step.TheVariants as steps
 use Rattle.re_outside.proofs.Does.{stays, failures-append}
@@ -39,11 +38,12 @@ lifted name later d n a b added past same own counted = record {
   where
     told : b.told ≡ a.told
     told = ap (λ (r : Rest). r.told) same
+
     by_kind : (k : FaultKind) (mine : Bool) → is_kind (Disk d) k ≡ mine → Counts (several n d k) (a.faults k) (b.faults k)
     by_kind k true e = subst (λ m. Counts m (a.faults k) (b.faults k)) (ap (λ (c : Bool). if c then n else 0) (sym e)) (subst (λ j. Counts n (a.faults j) (b.faults j)) (kind_is d k e) own)
     by_kind k false e =
         let kept : b.faults k ≡ a.faults k =
-            ap (λ (c : Bool). if c then 0 else b.faults k) (sym e) ∙ (ap (λ (r : Rest). r.faults k) same ∙ ap (λ (c : Bool). if c then 0 else a.faults k) e) in
+        ap (λ (c : Bool). if c then 0 else b.faults k) (sym e) ∙ (ap (λ (r : Rest). r.faults k) same ∙ ap (λ (c : Bool). if c then 0 else a.faults k) e) in
         subst (λ m. Counts m (a.faults k) (b.faults k)) (ap (λ (c : Bool). if c then n else 0) (sym e)) (subst (Counts 0 (a.faults k)) (sym kept) (stays (a.faults k)))
 
 -- the same where the port was made from an outside of these values, and its own given back to it
@@ -56,9 +56,9 @@ through_port seen name later d e f n a b c z added same_device from kept to past
   where
     moved : ((k : FaultKind) → failures added k ≤ several n e k) → Moves (seen b) (seen c) [] added (several n d)
     moved all = subst (λ i. Moves (seen b) (seen c) [] added (several n i)) same_device (lifted name later e n (seen b) (seen c) added
-      (λ t. subst (λ i. past_in i (seen c) ≡ with_steps (past_in e (seen b)) added) kept (past t))
-      (subst (λ i. rest_in later i (seen c) ≡ rest_in name e (seen b)) kept same)
-      (subst (λ i. Counts n (disk_faults e (seen b)) (disk_faults i (seen c))) kept own) all)
+        (λ t. subst (λ i. past_in i (seen c) ≡ with_steps (past_in e (seen b)) added) kept (past t))
+        (subst (λ i. rest_in later i (seen c) ≡ rest_in name e (seen b)) kept same)
+        (subst (λ i. Counts n (disk_faults e (seen b)) (disk_faults i (seen c))) kept own) all)
 
 -- what a call says of each of its two answers
 pub on_ok : {T : Type 0} {E : Type 0} (r : Result T E) (I A B C Q : Type 0) → (I → OnOk r A) → MatchResult r (λ _. B) (λ _. C) → ((I → A) → B → Q) → OnOk r Q

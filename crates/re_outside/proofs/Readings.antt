@@ -2,14 +2,14 @@
 use Rattle.std.specs.Prelude.{◌==◌, ◌||◌, not, nat_le}
 use Rattle.std.specs.Int.{w32, w64, to_be_bytes, from_be_bytes}
 use Rattle.std.specs.List.{flat_map}
-use Rattle.std.proofs.Common.{◌≡◌, ◌≢◌, ◌⊎◌, inl, inr, ℕ, zero, suc, ◌+◌, ◌-◌, ◌^◌, ◌<◌, ◌≤◌, Bool, true, false, List, [], ◌∷◌, ◌++◌, length, slice_index, take, drop, refl, sym, ◌∙◌, ap, subst, arith, append_assoc, length-append, length-take, length-drop}
+use Rattle.std.proofs.Common.{◌≡◌, ◌≢◌, ◌⊎◌, inl, inr, ℕ, zero, suc, ◌+◌, ◌^◌, ◌<◌, ◌≤◌, Bool, true, false, List, [], ◌∷◌, ◌++◌, length, take, drop, refl, sym, ◌∙◌, ap, subst, arith, append_assoc, length-append, length-take}
 use Rattle.std.proofs.lemmas.Bool.{cases_eq}
 use Rattle.std.proofs.lemmas.Bool.Decides.{leb_tells, eqb_tells}
 use Rattle.std.proofs.lemmas.List.{append-nil, take-append-drop}
 use Rattle.std.proofs.lemmas.Grind.{flat_map-append}
 use Rattle.std.proofs.lemmas.Nat.{from_be_bytes-to_be_bytes_4, from_be_bytes-to_be_bytes_8}
-use Rattle.re_outside.specs.Frame.{is_blank, HasGeneration, HasNoGeneration, IsBadHead, StoreFrame, Blank, Bad, Store, HasHead, Counting, HasStoreFrame, IsSnapshotLength, IsRecordLength, AreRecords, framed, opened, HasNoLength, IsCutOff, IsRefusedBody, generation, IsGeneration, front, journal_bytes, MayOpen, ReadsTo, IsClosed, IsRefusedGate, HasFrame, HasBadFrame}
-use Rattle.re_outside.proofs.Frames.{split, split_length}
+use Rattle.re_outside.specs.Frame.{is_blank, HasGeneration, HasNoGeneration, IsBadHead, StoreFrame, Blank, Bad, Store, HasHead, Counting, HasStoreFrame, IsSnapshotLength, IsRecordLength, AreRecords, framed, opened, HasNoLength, IsRefusedBody, generation, IsGeneration, journal_bytes, MayOpen, ReadsTo, HasFrame, HasBadFrame}
+use Rattle.re_outside.proofs.Frames.{split}
 use Rattle.re_outside.proofs.Stores.{generation_of}
 
 -- two lists are equal or not
@@ -44,6 +44,7 @@ module _ (write : ℕ → List ℕ) (read : List ℕ → ℕ) (size bound : ℕ)
     where
       of_value : (n : ℕ) (rest : List ℕ) → bytes ≡ write n ++ rest → Fits n → take size bytes ≡ write n
       of_value n rest is fits = (split (take size bytes) (write n) (drop size bytes) rest (omega (arith, length-take size bytes, sized n)) (take-append-drop size bytes ∙ is)).0
+
       by_value : (take size bytes ≡ write (read (take size bytes))) ⊎ (take size bytes ≢ write (read (take size bytes))) → HasNumber ⊎ HasNoNumber
       by_value (inr other) = inr (λ n rest is fits.
           let here = of_value n rest is fits in
@@ -89,10 +90,12 @@ module _ (Fits : ℕ → Type 0) (low : (n : ℕ) → Fits n → n < 2 ^ 32) (de
     where
       whole : (n : ℕ) (rest : List ℕ) → bytes ≡ to_be_bytes w32 n ++ rest → Fits n → n ≤ length rest → (body : List ℕ) × (more : List ℕ) × (bytes ≡ framed body ++ more) × Fits (length body)
       whole n rest is fits enough =
-          let size : length (take n rest) ≡ n = length-take n rest ∙ omega arith in
-          (take n rest, drop n rest,
+          let size : length (take n rest) ≡ n = length-take n rest ∙ omega arith in (
+            take n rest,
+            drop n rest,
             is ∙ (ap (λ l. to_be_bytes w32 n ++ l) (sym (take-append-drop n rest)) ∙ (ap (λ m. to_be_bytes w32 m ++ (take n rest ++ drop n rest)) (sym size) ∙ sym (append_assoc (to_be_bytes w32 (length (take n rest))) (take n rest) (drop n rest)))),
-            subst Fits (sym size) fits)
+            subst Fits (sym size) fits,
+          )
 
 -- ---- the frame of one file
 
@@ -152,13 +155,16 @@ at_gate file s bs gate more p = by_gate (cases_eq gate 1)
   where
     there : gate ≡ 1 → gate ∷ more ≡ 1 ∷ more
     there e = λ i. e i ∷ more
+
     by_body : gate ≡ 1 → MayOpen (generation s) bs → ((body : List ℕ) × (rest : List ℕ) × (more ≡ framed body ++ rest) × IsRecordLength (length body)) ⊎ ((k : ℕ) × IsRefusedBody IsRecordLength more k) → Goes file s bs (length (gate ∷ more))
     by_body e may (inr (k, refused)) = inl (inr (_, inr (s, bs, gate ∷ more, 1 + k, p, inr (inr (more, k, there e, may, refused, refl)), refl)))
     by_body e may (inl (body, rest, is, size)) =
         inr (body, rest, read_more file s bs body rest (subst (ReadsTo file s bs) (there e ∙ (λ i. 1 ∷ is i)) p) may size, omega (arith, ap length is, length-append (framed body) rest))
+
     by_limit : gate ≡ 1 → MayOpen (generation s) bs ⊎ (MayOpen (generation s) bs → ⊥) → Goes file s bs (length (gate ∷ more))
     by_limit e (inr over) = inl (inr (_, inr (s, bs, gate ∷ more, 0, p, inr (inl (more, there e, over, refl)), refl)))
     by_limit e (inl may) = by_body e may (body_or_refused IsRecordLength (λ n fits. omega (arith, fits.1)) (between 1 65536) more)
+
     by_gate : (gate ≡ 1) ⊎ (gate ≢ 1) → Goes file s bs (length (gate ∷ more))
     by_gate (inr shut) = inl (inl (s, bs, (gate ∷ more, p, (gate, more, shut, refl))))
     by_gate (inl e) = by_limit e (may_or_not (generation s) bs)
@@ -181,6 +187,7 @@ read_file file g (n, rest, is, fits, number) = by_body (body_or_refused IsSnapsh
   where
     bytes : List ℕ
     bytes = to_be_bytes w32 n ++ (to_be_bytes w64 g ++ rest)
+
     by_body : ((body : List ℕ) × (more : List ℕ) × (to_be_bytes w32 n ++ (to_be_bytes w64 g ++ rest) ≡ framed body ++ more) × IsSnapshotLength (length body)) ⊎ ((k : ℕ) × IsRefusedBody IsSnapshotLength (to_be_bytes w32 n ++ (to_be_bytes w64 g ++ rest)) k) → Read file
     by_body (inr (k, inl none)) = absurd (none.0 n (to_be_bytes w64 g ++ rest) refl fits)
     by_body (inr (k, inr cut)) = inr (5, inl (to_be_bytes w32 n ++ (to_be_bytes w64 g ++ rest), is, cut.0, refl))

@@ -7,7 +7,7 @@ use Rattle.std.proofs.lemmas.Nat.{from_be_bytes-to_be_bytes_8}
 use Rattle.std.proofs.Math.Seq.{take-append_seam}
 use Rattle.std.proofs.Common.{◌≡◌, ◌⊎◌, inl, inr, ℕ, ◌+◌, ◌^◌, ◌<◌, ◌≤◌, Bool, true, false, List, [], ◌∷◌, ◌++◌, length, slice_index, take, refl, sym, ◌∙◌, ap, subst, arith, append_assoc, length-append}
 use Rattle.std.proofs.lemmas.Bool.Decides.{nat_tests}
-use Rattle.re_outside.specs.Frame.{IsSnapshotLength, framed, opened, generation, ReadsTo, HasNoLength, IsGeneration, is_blank, HasGeneration, HasNoGeneration, IsBadHead, HasFrame, HasBadFrame, StoreFrame, Blank, Bad, Store, IsOlder, HasHead, Counting, HasBadHead, HasStoreFrame, IsClosed}
+use Rattle.re_outside.specs.Frame.{IsSnapshotLength, framed, opened, generation, IsGeneration, is_blank, HasGeneration, IsBadHead, HasFrame, HasBadFrame, StoreFrame, Blank, Bad, Store, IsOlder, HasHead, Counting, HasBadHead, HasStoreFrame, IsClosed}
 use Rattle.re_outside.proofs.Frames.{split_length, split_generation, one_frame, frame_not_bad, one_place}
 
 low_length : (n : ℕ) → IsSnapshotLength n → n < 2 ^ 32

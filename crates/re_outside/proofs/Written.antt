@@ -1,8 +1,8 @@
 -- What a file holds after a write, place by place.
-use Rattle.std.proofs.Common.{◌≡◌, ◌⊎◌, inl, inr, ℕ, zero, suc, ◌+◌, ◌-◌, ◌<◌, ◌≤◌, min, max, false, List, [], ◌∷◌, ◌++◌, length, slice_index, take, drop, replicate, refl, sym, ◌∙◌, ap, subst, arith, length-append, length-take}
+use Rattle.std.proofs.Common.{◌≡◌, ◌⊎◌, inl, inr, ℕ, suc, ◌+◌, ◌-◌, ◌<◌, ◌≤◌, min, max, false, List, [], ◌∷◌, ◌++◌, length, slice_index, take, replicate, refl, ◌∙◌, ap, arith, length-append, length-take}
 use Rattle.std.proofs.lemmas.Bool.Decides.{nat_tests}
 use Rattle.std.proofs.lemmas.List.{get_or_append_left, get_or-append_right, length-replicate, get_or-replicate, take_all}
-use Rattle.re_outside.specs.Image.{written, is_in_write, write_end}
+use Rattle.re_outside.specs.Image.{written, is_in_write}
 use Rattle.re_outside.proofs.Images.{length-written}
 use Rattle.re_outside.proofs.Honest.{written_torn}
 

@@ -1,4 +1,4 @@
-use Rattle.re_outside.proofs.Images.{image_start, image_sync, image_act}
+use Rattle.re_outside.proofs.Images.{image_sync, image_act}
 use Rattle.re_outside.proofs.Honest.{reads_image, image_next}
 use Rattle.re_outside.proofs.laws.image_law.Goals as goal
 
