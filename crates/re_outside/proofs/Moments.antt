@@ -1,8 +1,8 @@
 -- Moments from one to another.
-use Rattle.std.proofs.Common.{◌≡◌, ◌⊎◌, inl, inr, List, [], ◌∷◌, ◌++◌, refl, sym, ◌∙◌, ap, subst, append_assoc}
+use Rattle.std.proofs.Common.{◌≡◌, ◌⊎◌, inl, inr, ℕ, List, [], ◌∷◌, ◌++◌, refl, sym, ◌∙◌, ap, subst, append_assoc}
 use Rattle.std.proofs.lemmas.List.{append-nil, append_cancel_left}
 use Rattle.re_outside.specs.declared.step.Step.{Step}
-use Rattle.re_outside.specs.Trace.{Past, with_steps, IsBefore}
+use Rattle.re_outside.specs.Trace.{Past, with_steps, as_device, IsBefore}
 use Rattle.re_outside.specs.Moment.{Throughout}
 
 -- a past with these parts
@@ -86,3 +86,12 @@ at_start old new P t = t.each old (before_refl old) t.goes_on
 
 pub at_end : (old new : Past) (P : Past → Type 0) → Throughout old new P → P new
 at_end old new P t = t.each new t.goes_on (before_refl new)
+
+-- the moments of a device's disk are moments of the outside
+pub of_outside : (d : ℕ) (a b : Past) (P : Past → Type 0) → a.device ≡ b.device → Throughout (as_device d a) (as_device d b) P → Throughout a b (λ now. P (as_device d now))
+of_outside d a b P same t =
+    let last = t.goes_on.1 in
+    record {
+      goes_on = (t.goes_on.0, (λ i. record { device = sym same i; start = (ap (λ p. p.start) last) i; trace = (ap (λ p. p.trace) last) i }));
+      each = λ now on nn. t.each (as_device d now) (on.0, ap (as_device d) on.1) (nn.0, ap (as_device d) nn.1);
+    }

@@ -5,9 +5,9 @@ use Rattle.std.specs.List.{flat_map}
 use Rattle.std.proofs.lemmas.List.{take-append-le}
 use Rattle.std.proofs.lemmas.Nat.{from_be_bytes-to_be_bytes_8}
 use Rattle.std.proofs.Math.Seq.{take-append_seam}
-use Rattle.std.proofs.Common.{◌≡◌, ◌⊎◌, inl, inr, ℕ, ◌+◌, ◌^◌, ◌<◌, ◌≤◌, Bool, true, false, List, [], ◌∷◌, ◌++◌, length, slice_index, take, refl, sym, ◌∙◌, ap, subst, arith, append_assoc, length-append}
+use Rattle.std.proofs.Common.{◌≡◌, ◌⊎◌, inl, inr, ℕ, ◌^◌, ◌<◌, ◌≤◌, Bool, true, false, List, ◌∷◌, ◌++◌, length, slice_index, take, refl, sym, ◌∙◌, ap, subst, arith, append_assoc, length-append}
 use Rattle.std.proofs.lemmas.Bool.Decides.{nat_tests}
-use Rattle.re_outside.specs.Frame.{IsSnapshotLength, framed, opened, generation, IsGeneration, is_blank, HasGeneration, IsBadHead, HasFrame, HasBadFrame, StoreFrame, Blank, Bad, Store, IsOlder, HasHead, Counting, HasBadHead, HasStoreFrame, IsClosed}
+use Rattle.re_outside.specs.Frame.{IsSnapshotLength, framed, opened, generation, IsGeneration, is_blank, HasGeneration, IsBadHead, HasFrame, HasBadFrame, StoreFrame, Blank, Bad, Store, IsOlder, HasHead, Counting, HasBadHead, HasStoreFrame}
 use Rattle.re_outside.proofs.Frames.{split_length, split_generation, one_frame, frame_not_bad, one_place}
 
 low_length : (n : ℕ) → IsSnapshotLength n → n < 2 ^ 32
@@ -166,20 +166,3 @@ module _ (first second : List ℕ) where
       let same = one_counts n m file other counts also in
       let parts = one_frame other s z bs cs (subst (λ f. HasFrame f s bs) same.1 frame) more in
       (λ i. Store (same.0 i) (parts.0 i) (parts.1 i))
-
--- ---- worked examples
-
--- a file of the one byte 1 is blank
-pub one_byte : is_blank (1 ∷ []) ≡ true
-one_byte = refl
-
--- a gate of 7 isn't open
-pub seven_closed : (rest : List ℕ) → IsClosed (7 ∷ rest)
-seven_closed rest = (7, rest, (λ e. let same : 7 ≡ 1 = e in absurd (omega (arith, same))), refl)
-
-no_bytes : (g : ℕ) (rest : List ℕ) → [] ≡ to_be_bytes w64 g ++ rest → ⊥
-no_bytes g rest e = absurd (let l : 0 ≡ length (to_be_bytes w64 g) + length rest = ap length e ∙ length-append (to_be_bytes w64 g) rest in let m : length (to_be_bytes w64 g) ≡ 8 = refl in omega (arith, l, m))
-
--- a snapshot of 70 bytes that is cut off at once is refused at its first byte
-pub cut_at_five : HasStoreFrame (1 ∷ 0 ∷ 0 ∷ 0 ∷ 70 ∷ []) [] (Bad 0 5)
-cut_at_five = inl (inl (refl, (refl, 0 ∷ 0 ∷ 0 ∷ 70 ∷ [], refl, inr (70, [], refl, (omega arith, omega arith), (λ g rest e fits. no_bytes g rest e), refl))))

@@ -1,5 +1,5 @@
 use Rattle.re_outside.proofs.Calls.{write_changes, failed_write_changes, sync_changes, failed_sync_changes}
-use Rattle.re_outside.proofs.Ops.{cut_changes, failed_cut_changes}
+use Rattle.re_outside.proofs.SyncedChanges.{cut_changes, failed_cut_changes}
 use Rattle.re_outside.proofs.laws.call_law.Goals as goal
 
 pub returns-clause-write : goal.returns-clause-write

@@ -38,9 +38,9 @@ module _ (f : ℕ) (Q : List ℕ → Type 0) (old : Past) where
     others = only_trans f old now new same only c.others;
   }
 
-  pub ops_safe : (ops : List FileChange) (file : List ℕ) (now : Past) → now.device ≡ old.device → OnlyMoves f old now → IsSettled f file now → KeepSafe Q file ops → IsSafe (Leaves f Q old) (synced_steps now.device f ops) now
-  ops_safe [] file now same only settled keep = settled_leaves file now only settled keep
-  ops_safe (WriteAt at bytes ∷ ops) file now same only settled keep =
+  pub changes_safe : (changes : List FileChange) (file : List ℕ) (now : Past) → now.device ≡ old.device → OnlyMoves f old now → IsSettled f file now → KeepSafe Q file changes → IsSafe (Leaves f Q old) (synced_steps now.device f changes) now
+  changes_safe [] file now same only settled keep = settled_leaves file now only settled keep
+  changes_safe (WriteAt at bytes ∷ changes) file now same only settled keep =
       let mid = with_steps now (steps.Write now.device f at (plain bytes) ∷ []) in
       let next = with_steps mid (steps.Sync now.device f ∷ []) in
       let torn : (was c : List ℕ) → IsCrashImageOf now f was → IsTorn (length (content_of now f)) at (length bytes) was c → Q c = λ was c image t.
@@ -53,10 +53,10 @@ module _ (f : ℕ) (Q : List ℕ → Type 0) (old : Past) where
         (
           there,
           failed_sync_leaves f Q old mid same there,
-          ops_safe ops (written file at bytes) next same (only_trans f old mid next same there.others (only_moves f mid _ _ (is_synced mid.device f))) synced keep.1,
+          changes_safe changes (written file at bytes) next same (only_trans f old mid next same there.others (only_moves f mid _ _ (is_synced mid.device f))) synced keep.1,
         ),
       )
-  ops_safe (CutAt n ∷ ops) file now same only settled keep =
+  changes_safe (CutAt n ∷ changes) file now same only settled keep =
       let mid = with_steps now (steps.Cut now.device f n ∷ []) in
       let next = with_steps mid (steps.Sync now.device f ∷ []) in
       let there = changed_leaves file n now mid same only settled keep.0 (cut_changes f n now) in
@@ -67,20 +67,20 @@ module _ (f : ℕ) (Q : List ℕ → Type 0) (old : Past) where
         (
           there,
           failed_sync_leaves f Q old mid same there,
-          ops_safe ops (take n file) next same (only_trans f old mid next same there.others (only_moves f mid _ _ (is_synced mid.device f))) synced keep.1,
+          changes_safe changes (take n file) next same (only_trans f old mid next same there.others (only_moves f mid _ _ (is_synced mid.device f))) synced keep.1,
         ),
       )
 
 -- after changes that were each synced the file is settled
-pub ops_settle : (f : ℕ) (ops : List FileChange) (file : List ℕ) (now : Past) → IsSettled f file now → IsSettled f (all_changed file ops) (with_steps now (synced_steps now.device f ops))
-ops_settle f [] file now settled = subst (IsSettled f file) (goes_nothing now) settled
-ops_settle f (WriteAt at bytes ∷ ops) file now settled =
+pub changes_settle : (f : ℕ) (changes : List FileChange) (file : List ℕ) (now : Past) → IsSettled f file now → IsSettled f (all_changed file changes) (with_steps now (synced_steps now.device f changes))
+changes_settle f [] file now settled = subst (IsSettled f file) (goes_nothing now) settled
+changes_settle f (WriteAt at bytes ∷ changes) file now settled =
     let mid = with_steps now (steps.Write now.device f at (plain bytes) ∷ []) in
     let next = with_steps mid (steps.Sync now.device f ∷ []) in
     let reads : content_of mid f ≡ written file at bytes = write_reads f at bytes now mid refl ∙ ap (λ r. written r at bytes) settled.content in
-    subst (IsSettled f (all_changed (written file at bytes) ops)) (two now _ _ (synced_steps now.device f ops)) (ops_settle f ops (written file at bytes) next (sync_settles f (written file at bytes) mid next reads refl))
-ops_settle f (CutAt n ∷ ops) file now settled =
+    subst (IsSettled f (all_changed (written file at bytes) changes)) (two now _ _ (synced_steps now.device f changes)) (changes_settle f changes (written file at bytes) next (sync_settles f (written file at bytes) mid next reads refl))
+changes_settle f (CutAt n ∷ changes) file now settled =
     let mid = with_steps now (steps.Cut now.device f n ∷ []) in
     let next = with_steps mid (steps.Sync now.device f ∷ []) in
     let reads : content_of mid f ≡ take n file = reads_more f now _ _ (is_cut now.device f n) ∙ ap (take n) settled.content in
-    subst (IsSettled f (all_changed (take n file) ops)) (two now _ _ (synced_steps now.device f ops)) (ops_settle f ops (take n file) next (sync_settles f (take n file) mid next reads refl))
+    subst (IsSettled f (all_changed (take n file) changes)) (two now _ _ (synced_steps now.device f changes)) (changes_settle f changes (take n file) next (sync_settles f (take n file) mid next reads refl))
