@@ -79,8 +79,10 @@ pub trait Condition {
     ghost use Rattle.std.specs.Prelude.{List, ℕ};
     ghost use Rattle.re_outside.specs.Trace.{Past};
 
+    /// The condition on a moment.
     ghost at: { Past → Type 0 };
 
+    /// The condition on a file's bytes.
     ghost of: { List ℕ → Type 0 };
 }
 
