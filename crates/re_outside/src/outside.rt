@@ -26,6 +26,7 @@ pub trait Outside {
     /// Whether the implementation tells what is seen beside the counts.
     ghost tells: { Bool };
 
+    /// What is seen of it: the input left, the files before the first step, the steps and the counts.
     ghost seen: { Self → Seen };
 
     /// Takes the first bytes of the input into the front of `buf`, and answers how many.

@@ -8,7 +8,9 @@ use crate::{Disk, Failed, Outside};
 /// The disk of one device, over an outside that all devices share. Its steps are the outside's.
 #[derive(Drop)]
 pub struct Port<'a, O> {
+    /// The outside that has the device's files.
     pub out: &'a mut O,
+    /// The device's number.
     pub device: u8,
 }
 
