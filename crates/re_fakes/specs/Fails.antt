@@ -2,7 +2,7 @@
 use Rattle.std.specs.Prelude.{ℕ, ◌==◌, ◌&&◌, Bool, true, false, List, Option, find}
 use Rattle.re_outside.specs.declared.step.Call.{Call}
 use Rattle.re_outside.specs.declared.step.Call.TheVariants.{Take, Say, Size, Fetch, Write, Cut, Sync}
-use Rattle.re_fakes.specs.declared.files.Fail.{Fail}
+use Rattle.re_fakes.specs.declared.fails.Fail.{Fail}
 
 -- two calls are of one kind
 abbrev pub same_call : Call → Call → Bool

@@ -1,2 +1,3 @@
 pub mod Fails
-pub mod World
+pub mod Files
+pub mod Written
