@@ -1,2 +1,5 @@
+pub mod FileAct
+pub mod Image
 pub mod Listed
 pub mod Outside
+pub mod Trace
