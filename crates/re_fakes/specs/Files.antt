@@ -1,5 +1,5 @@
 -- The files of all devices, as a list of bytes for each place.
-use Rattle.std.specs.Prelude.{ℕ, ◌≡◌, ◌≢◌, ◌+◌, ◌*◌, List, [], map, slice_index_or}
+use Rattle.std.specs.Prelude.{ℕ, ◌≡◌, ◌≢◌, ◌+◌, ◌*◌, List, [], map, slice_index_or, nat_lt, if◌then◌else◌}
 use Rattle.re_outside.specs.Listed.{Listed}
 
 -- the bytes of each list, without its spare
@@ -14,9 +14,9 @@ place_of device file = 2 * device + file
 abbrev pub file_at : List (List ℕ) → ℕ → List ℕ
 file_at files place = slice_index_or files place []
 
--- the bytes of a file of a device
+-- the bytes of a file of a device, which has files 0 and 1 alone
 abbrev pub file_in : List (List ℕ) → ℕ → ℕ → List ℕ
-file_in files device file = file_at files (place_of device file)
+file_in files device file = if nat_lt file 2 then file_at files (place_of device file) else []
 
 -- each place has the bytes that it had
 abbrev pub SameFiles : List (List ℕ) → List (List ℕ) → Type 0

@@ -1,3 +1,4 @@
 pub mod Fails
 pub mod Files
-pub mod Written
+pub mod Replay
+pub mod Stops

@@ -1,6 +1,6 @@
 //! Edits of a file's bytes in their place.
 ghost use Rattle.std.specs.Prelude.{◌≡◌, ◌≤◌, ◌<◌, ◌+◌, ◌-◌, ◌^◌, ◌++◌, ◌∷◌, [], length, take, drop, replicate, OnOk, OnErr};
-ghost use Rattle.re_fakes.specs.Written.{written};
+ghost use Rattle.re_outside.specs.Image.{written};
 
 use re_outside::Bytes;
 use std::alloc::AllocError;

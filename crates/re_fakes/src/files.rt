@@ -1,9 +1,9 @@
 //! The files of all devices.
-ghost use Rattle.std.specs.Prelude.{◌≡◌, ◌<◌, ◌+◌, ◌*◌, ◌^◌, length, take, IfOk, OnOk, OnErr};
-ghost use Rattle.re_fakes.specs.Written.{written};
-ghost use Rattle.re_fakes.specs.Files.{place_of, file_at, file_in, SameFiles, IsPut};
+ghost use Rattle.std.specs.Prelude.{◌≡◌, ◌<◌, ◌+◌, ◌-◌, ◌^◌, ◌++◌, length, take, replicate, OnOk, OnErr};
+ghost use Rattle.re_outside.specs.Image.{written};
+ghost use Rattle.re_fakes.specs.Files.{place_of, file_at, SameFiles, IsPut};
 
-use crate::edits::write_over;
+use crate::edits::{grow_to, write_over};
 use re_outside::Bytes;
 use re_terms::{Seq, TryCopy};
 use std::alloc::{AllocError, Global};
@@ -47,7 +47,7 @@ fn place_of(device: u8, file: u8) -> usize
 impl Files {
     /// The bytes of a file of a device, none where it isn't in the list.
     pub fn bytes(&self, device: u8, file: u8) -> &[u8]
-        ensures { result.now ≡ file_in self.now device file }
+        ensures { result.now ≡ file_at self.now (place_of device file) }
     {
         match self.list.get(place_of(device, file)) {
             Some(bytes) => bytes.as_slice(),
@@ -69,7 +69,7 @@ impl Files {
         bytes: &[u8],
     ) -> Result<(), AllocError>
         requires { at + length bytes.now < 2 ^ 64 }
-        ensures ok { OnOk result (IsPut self.old self.new (place_of device file) (written (file_in self.old device file) at bytes.now)) }
+        ensures ok { OnOk result (IsPut self.old self.new (place_of device file) (written (file_at self.old (place_of device file)) at bytes.now)) }
         ensures err { OnErr result (SameFiles self.old self.new) }
     {
         let place = place_of(device, file);
@@ -87,9 +87,38 @@ impl Files {
         }
     }
 
+    /// Makes a file at least this long, with this byte behind its end.
+    ///
+    /// The one refusal is want of memory, and leaves the files as they were.
+    pub(crate) fn grow(
+        &mut self,
+        alloc: Global,
+        device: u8,
+        file: u8,
+        size: usize,
+        byte: u8,
+    ) -> Result<(), AllocError>
+        ensures ok { OnOk result (IsPut self.old self.new (place_of device file) (let old = file_at self.old (place_of device file) in old ++ replicate (size - length old) byte)) }
+        ensures err { OnErr result (SameFiles self.old self.new) }
+    {
+        let place = place_of(device, file);
+        self.reach(alloc, place)?;
+        let mut edited = self.list.replace(place, Bytes::new(alloc));
+        match grow_to(&mut edited, size, byte) {
+            Ok(()) => {
+                self.list.set(place, edited);
+                Ok(())
+            }
+            Err(error) => {
+                self.list.set(place, edited);
+                Err(error)
+            }
+        }
+    }
+
     /// Keeps the first `n` bytes of a file.
     pub(crate) fn cut(&mut self, alloc: Global, device: u8, file: u8, n: usize)
-        ensures { IsPut self.old self.new (place_of device file) (take n (file_in self.old device file)) }
+        ensures { IsPut self.old self.new (place_of device file) (take n (file_at self.old (place_of device file))) }
     {
         let place = place_of(device, file);
         if place < self.list.len() {

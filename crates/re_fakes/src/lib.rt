@@ -4,6 +4,9 @@
 pub mod edits;
 pub mod fails;
 pub mod files;
+pub mod replay;
+pub mod stops;
 
 pub use fails::Fail;
 pub use files::Files;
+pub use stops::Choice;

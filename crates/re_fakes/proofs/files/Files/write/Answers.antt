@@ -1,5 +1,5 @@
 use Rattle.std.proofs.Common.{ap, List, ℕ}
-use Rattle.re_fakes.specs.Written.{written}
+use Rattle.re_outside.specs.Image.{written}
 use Rattle.re_fakes.proofs.Places.{put_edited, put_back, reached_edited, same_trans}
 use Rattle.re_fakes.proofs.files.Files.write.Goals as goal
 
