@@ -1,14 +1,14 @@
 -- Steps one behind the other.
-use Rattle.std.proofs.Common.{arith, ℕ, ◌≡◌, ◌+◌, ◌≤◌, List, [], ◌∷◌, ◌++◌, take, drop, sym, ◌∙◌, ap, subst, refl, inl, inr, append_assoc}
+use Rattle.std.proofs.Common.{arith, ℕ, ◌≡◌, ◌+◌, ◌≤◌, List, [], ◌∷◌, ◌++◌, take, drop, sym, ◌∙◌, ap, subst, refl, inl, inr, append_assoc, true, Bool}
 use Rattle.std.proofs.lemmas.List.{append-nil, take-append-drop, take-take, drop-take}
 use Rattle.re_outside.specs.Listed.{plain}
-use Rattle.re_outside.specs.Outside.{said, Faults, none, input_fault, output_fault, plus, Seen, Counts, Moves, IsOutput, AreOutputs, IsFailure, Fails, Does, Breaks, IsAtEnd}
+use Rattle.re_outside.specs.Outside.{said, FaultKind, Faults, none, one_fault, input_fault, output_fault, fault_kind, plus, failures, Seen, Counts, Moves, IsOutput, AreOutputs, IsFailure, Fails, DoesWith, Does, BreaksWith, Breaks, IsAtEnd}
 use Rattle.re_outside.specs.declared.step.Call.{Call}
 use Rattle.re_outside.specs.declared.step.Call.TheVariants as kind
 use Rattle.re_outside.specs.declared.step.Step.{Step}
 use Rattle.re_outside.specs.declared.step.Step.TheVariants.{Write, Cut, Sync, Say, Fail}
 
--- what two parts say is what they say one behind the other
+-- what is said by two parts
 pub said-append : (xs ys : List Step) → said (xs ++ ys) ≡ said xs ++ said ys
 said-append [] ys = refl
 said-append (Say bytes ∷ xs) ys = ap (λ t. bytes.items ++ t) (said-append xs ys) ∙ sym (append_assoc bytes.items (said xs) (said ys))
@@ -17,7 +17,7 @@ said-append (Cut device file length ∷ xs) ys = said-append xs ys
 said-append (Sync device file ∷ xs) ys = said-append xs ys
 said-append (Fail call device file at bytes content ∷ xs) ys = said-append xs ys
 
--- two parts that touch no file touch none one behind the other
+-- steps that touch no file, one part behind the other
 pub outputs-append : (xs ys : List Step) → AreOutputs xs → AreOutputs ys → AreOutputs (xs ++ ys)
 outputs-append [] ys p q = q
 outputs-append (Say bytes ∷ xs) ys p q = outputs-append xs ys p q
@@ -26,8 +26,17 @@ outputs-append (Cut device file length ∷ xs) ys p q = absurd p
 outputs-append (Sync device file ∷ xs) ys p q = absurd p
 outputs-append (Fail call device file at bytes content ∷ xs) ys p q = (p.0, outputs-append xs ys p.1 q)
 
+-- the failed calls of two parts
+pub failures-append : (xs ys : List Step) (k : FaultKind) → failures (xs ++ ys) k ≡ failures xs k + failures ys k
+failures-append [] ys k = omega arith
+failures-append (Say bytes ∷ xs) ys k = failures-append xs ys k
+failures-append (Write device file at bytes ∷ xs) ys k = failures-append xs ys k
+failures-append (Cut device file length ∷ xs) ys k = failures-append xs ys k
+failures-append (Sync device file ∷ xs) ys k = failures-append xs ys k
+failures-append (Fail call device file at bytes content ∷ xs) ys k = omega (arith, failures-append xs ys k)
+
 -- a count over two parts
-counts-trans : (f g a b c : ℕ) → Counts f a b → Counts g b c → Counts (f + g) a c
+pub counts-trans : (f g a b c : ℕ) → Counts f a b → Counts g b c → Counts (f + g) a c
 counts-trans f g a b c p q = (λ h. omega (arith, p.0, q.0), omega (arith, p.1, q.1))
 
 -- one move behind the other is a move
@@ -37,54 +46,85 @@ moves-trans a b c r r' s s' f g p q = record {
   left = λ t. p.left t ∙ ap (λ l. r ++ l) (q.left (p.told ∙ t)) ∙ sym (append_assoc r r' c.left);
   start = λ t. q.start (p.told ∙ t) ∙ p.start t;
   trace = λ t. q.trace (p.told ∙ t) ∙ ap (λ l. l ++ s') (p.trace t) ∙ append_assoc a.trace s s';
-  input_faults = counts-trans f.input g.input _ _ _ p.input_faults q.input_faults;
-  output_faults = counts-trans f.output g.output _ _ _ p.output_faults q.output_faults;
+  counted = λ k. omega (arith, failures-append s s' k, p.counted k, q.counted k);
+  counts = λ k. counts-trans (f k) (g k) _ _ _ (p.counts k) (q.counts k);
 }
 
 -- a count that nothing raises
-stays : (n : ℕ) → Counts 0 n n
+pub stays : (n : ℕ) → Counts 0 n n
 stays n = (λ h. refl, omega arith)
 
--- nothing is done
-pub does-nil : (a : Seen) → Does a a [] [] none
-does-nil a = record {
-  steps = [];
-  says = refl;
-  outputs = tt;
-  moves = record {
-    told = refl;
-    left = λ t. refl;
-    start = λ t. refl;
-    trace = λ t. sym (append-nil a.trace);
-    input_faults = stays _;
-    output_faults = stays _;
-  };
+-- nothing moves
+pub moves-nil : (a : Seen) → Moves a a [] [] none
+moves-nil a = record {
+  told = refl;
+  left = λ t. refl;
+  start = λ t. refl;
+  trace = λ t. sym (append-nil a.trace);
+  counted = λ k. omega arith;
+  counts = λ k. stays _;
 }
 
--- one part behind the other
-pub does-trans : (a b c : Seen) (r r' t t' : List ℕ) (f g : Faults) → Does a b r t f → Does b c r' t' g → Does a c (r ++ r') (t ++ t') (plus f g)
-does-trans a b c r r' t t' f g p q = record {
-  steps = p.steps ++ q.steps;
-  outputs = outputs-append p.steps q.steps p.outputs q.outputs;
-  says = said-append p.steps q.steps ∙ ap (λ l. l ++ said q.steps) p.says ∙ ap (λ l. t ++ l) q.says;
-  moves = moves-trans a b c r r' p.steps q.steps f g p.moves q.moves;
+-- the same by faults that are as many of each kind
+pub moves_as : (a b : Seen) (r : List ℕ) (s : List Step) (f g : Faults) → ((k : FaultKind) → f k ≡ g k) → Moves a b r s f → Moves a b r s g
+moves_as a b r s f g e p = record {
+  told = p.told;
+  left = p.left;
+  start = p.start;
+  trace = p.trace;
+  counted = λ k. subst (λ n. failures s k ≤ n) (e k) (p.counted k);
+  counts = λ k. subst (λ n. Counts n (a.faults k) (b.faults k)) (e k) (p.counts k);
 }
 
 -- no fault more
 pub plus-none : (f : Faults) → plus f none ≡ f
-plus-none f = grind arith
+plus-none f = let e : (k : FaultKind) → f k + 0 ≡ f k = λ k. omega arith in λ i k. e k i
 
 -- no fault before
 pub none-plus : (f : Faults) → plus none f ≡ f
-none-plus f = grind arith
+none-plus f = let e : (k : FaultKind) → 0 + f k ≡ f k = λ k. omega arith in λ i k. e k i
+
+-- faults of three parts
+pub plus-assoc : (f g h : Faults) → plus (plus f g) h ≡ plus f (plus g h)
+plus-assoc f g h = let e : (k : FaultKind) → f k + g k + h k ≡ f k + (g k + h k) = λ k. omega arith in λ i k. e k i
+
+-- nothing is done
+pub does_with-nil : (P : List Step → Type 0) (a : Seen) → P [] → DoesWith P a a [] [] none
+does_with-nil P a p = record { steps = []; says = refl; holds = p; moves = moves-nil a }
+
+-- one part behind the other
+pub does_with-trans : (P Q R : List Step → Type 0) (a b c : Seen) (r r' t t' : List ℕ) (f g : Faults) → ((xs ys : List Step) → P xs → Q ys → R (xs ++ ys)) → DoesWith P a b r t f → DoesWith Q b c r' t' g → DoesWith R a c (r ++ r') (t ++ t') (plus f g)
+does_with-trans P Q R a b c r r' t t' f g joined p q = record {
+  steps = p.steps ++ q.steps;
+  holds = joined p.steps q.steps p.holds q.holds;
+  says = said-append p.steps q.steps ∙ ap (λ l. l ++ said q.steps) p.says ∙ ap (λ l. t ++ l) q.says;
+  moves = moves-trans a b c r r' p.steps q.steps f g p.moves q.moves;
+}
+
+-- the same in other words
+pub does_with_as : (P Q : List Step → Type 0) (a b : Seen) (r t t' : List ℕ) (f f' : Faults) → ((steps : List Step) → P steps → Q steps) → DoesWith P a b r t f → t ≡ t' → ((k : FaultKind) → f k ≡ f' k) → DoesWith Q a b r t' f'
+does_with_as P Q a b r t t' f f' weaker p e q = record {
+  steps = p.steps;
+  says = p.says ∙ e;
+  holds = weaker p.steps p.holds;
+  moves = moves_as a b r p.steps f f' q p.moves;
+}
+
+-- nothing is done
+pub does-nil : (a : Seen) → Does a a [] [] none
+does-nil a = does_with-nil AreOutputs a tt
+
+-- one part behind the other
+pub does-trans : (a b c : Seen) (r r' t t' : List ℕ) (f g : Faults) → Does a b r t f → Does b c r' t' g → Does a c (r ++ r') (t ++ t') (plus f g)
+does-trans a b c r r' t t' f g p q = does_with-trans AreOutputs AreOutputs AreOutputs a b c r r' t t' f g outputs-append p q
 
 -- a call took these bytes
 pub does_take : (a b : Seen) (r : List ℕ) → Moves a b r [] none → Does a b r [] none
-does_take a b r p = record { steps = []; says = refl; outputs = tt; moves = p }
+does_take a b r p = record { steps = []; says = refl; holds = tt; moves = p }
 
 -- a call said these bytes
 pub does_say : (a b : Seen) (t : List ℕ) → Moves a b [] (Say (plain t) ∷ []) none → Does a b [] t none
-does_say a b t p = record { steps = Say (plain t) ∷ []; says = append-nil t; outputs = tt; moves = p }
+does_say a b t p = record { steps = Say (plain t) ∷ []; says = append-nil t; holds = tt; moves = p }
 
 -- the first bytes and those behind them are the first of both together
 take_two : (n m : ℕ) (bytes : List ℕ) → take n bytes ++ take m (drop n bytes) ≡ take (n + m) bytes
@@ -112,10 +152,10 @@ said_more a b c n m bytes p q = subst (λ t. Does a c [] t none) (take_two n m b
 
 -- bytes were taken, and more behind them
 pub moves_read : (a b c : Seen) (r r' : List ℕ) → Moves a b r [] none → Moves b c r' [] none → Moves a c (r ++ r') [] none
-moves_read a b c r r' p q = moves-trans a b c r r' [] [] none none p q
+moves_read a b c r r' p q = subst (Moves a c (r ++ r') []) (plus-none none) (moves-trans a b c r r' [] [] none none p q)
 
 -- what a failed call adds says nothing
-failure-said : (call : Call) (steps : List Step) → IsFailure call steps → said steps ≡ []
+pub failure-said : (call : Call) (steps : List Step) → IsFailure call steps → said steps ≡ []
 failure-said call steps p = elim p [ inl e ↦ ap said e | inr e ↦ ap said e ]
 
 -- what a failed call adds touches no file
@@ -127,7 +167,7 @@ pub fails_does : (a b : Seen) (call : Call) (f : Faults) → IsOutput call → F
 fails_does a b call f o p = record {
   steps = p.steps;
   says = failure-said call p.steps p.failure;
-  outputs = failure-outputs call p.steps o p.failure;
+  holds = failure-outputs call p.steps o p.failure;
   moves = p.moves;
 }
 
@@ -140,12 +180,29 @@ pub fails_say : (a b : Seen) → Fails a b kind.Say output_fault → Does a b []
 fails_say a b p = fails_does a b kind.Say output_fault tt p
 
 -- n bytes were said, and then a call failed
-pub broke : (a b c : Seen) (n : ℕ) (bytes : List ℕ) → Does a b [] (take n bytes) none → Does b c [] [] output_fault → Breaks a c bytes none
+pub broke : (a b c : Seen) (n : ℕ) (bytes : List ℕ) → Does a b [] (take n bytes) none → Fails b c kind.Say output_fault → Breaks a c bytes none
 broke a b c n bytes p q = record {
   front = take n bytes;
   rest = drop n bytes;
   whole = sym (take-append-drop n bytes);
-  does = subst (λ t. Does a c [] t output_fault) (append-nil (take n bytes)) (does_behind a b c [] (take n bytes) [] none output_fault p q);
+  before = b;
+  does = p;
+  failed = q;
+}
+
+-- what broke said its front, with one fault more
+pub breaks_does : (a b : Seen) (t : List ℕ) (f : Faults) (p : Breaks a b t f) → Does a b [] p.front (plus f output_fault)
+breaks_does a b t f p = subst (λ x. Does a b [] x (plus f output_fault)) (append-nil p.front) (does_behind a p.before b [] p.front [] f output_fault p.does (fails_say p.before b p.failed))
+
+-- text is said behind what was done, and breaks off
+pub breaks_behind : (a b c : Seen) (t t' : List ℕ) (f g : Faults) → Does a b [] t f → Breaks b c t' g → Breaks a c (t ++ t') (plus f g)
+breaks_behind a b c t t' f g p q = record {
+  front = t ++ q.front;
+  rest = q.rest;
+  whole = ap (λ l. t ++ l) q.whole ∙ sym (append_assoc t q.front q.rest);
+  before = q.before;
+  does = does_behind a b q.before [] t q.front f g p q.does;
+  failed = q.failed;
 }
 
 -- the end stays the end
@@ -157,10 +214,6 @@ pub does_as : (a b : Seen) (r t t' : List ℕ) (f f' : Faults) → Does a b r t 
 does_as a b r t t' f f' p e q = record {
   steps = p.steps;
   says = p.says ∙ e;
-  outputs = p.outputs;
+  holds = p.holds;
   moves = subst (Moves a b r p.steps) q p.moves;
 }
-
--- faults of three parts
-pub plus-assoc : (f g h : Faults) → plus (plus f g) h ≡ plus f (plus g h)
-plus-assoc f g h = grind arith

@@ -1,1 +1,9 @@
+pub mod Acts
 pub mod Does
+pub mod Honest
+pub mod Images
+pub mod Moments
+pub mod Ops
+pub mod Ports
+pub mod Safe
+pub mod Steps

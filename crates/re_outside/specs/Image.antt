@@ -115,6 +115,10 @@ pub record IsCutShort (n : ℕ) (old new : List ℕ) : Type 0 where
   pub no_shorter : min n (length old) ≤ length new
   pub front : new ≡ take (length new) old
 
+-- new is old, where a call that fails changes nothing
+abbrev pub IsUnchanged : List ℕ → List ℕ → Type 0
+IsUnchanged old new = new ≡ old
+
 -- a failed act leaves to reads what such a call may leave
 abbrev pub IsHonest : List ℕ → FileAct → Type 0
 IsHonest old (Wrote at bytes) = Unit {0}

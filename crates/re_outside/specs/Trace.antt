@@ -48,6 +48,18 @@ is_of d f (steps.Fail call device file at bytes left) = is_file_call call && (d 
 abbrev pub elsewhere : ℕ → ℕ → List Step → List Step
 elsewhere d f trace = filter (λ s. not (is_of d f s)) trace
 
+-- the step is of a file of device d
+abbrev pub is_on : ℕ → Step → Bool
+is_on d (steps.Write device file at bytes) = d == device
+is_on d (steps.Cut device file n) = d == device
+is_on d (steps.Sync device file) = d == device
+is_on d (steps.Say bytes) = false
+is_on d (steps.Fail call device file at bytes left) = is_file_call call && d == device
+
+-- the steps that aren't of a file of device d
+abbrev pub elsewhere_on : ℕ → List Step → List Step
+elsewhere_on d trace = filter (λ s. not (is_on d s)) trace
+
 -- what the steps were to file f of device d, in order
 abbrev pub acts_of : ℕ → ℕ → List Step → List FileAct
 acts_of d f [] = []
@@ -82,6 +94,10 @@ content_of past f = content_at past past.device f
 -- a stop may leave this of the device's own file f
 abbrev pub IsCrashImageOf : Past → ℕ → List ℕ → Type 0
 IsCrashImageOf past f file = IsCrashImageAt past past.device f file
+
+-- the same moment, spoken of device d
+abbrev pub as_device : ℕ → Past → Past
+as_device d past = record { device = d; start = past.start; trace = past.trace }
 
 -- a stop may leave these of all files of all devices, each taken at this one moment of the joint trace
 abbrev pub IsJointImage : Past → (ℕ → ℕ → List ℕ) → Type 0
