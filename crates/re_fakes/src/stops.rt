@@ -60,6 +60,6 @@ pub(crate) fn files_after(
     }
     match choice {
         Choice::Read => Ok(replay.now),
-        Choice::Stable | Choice::Sevens | Choice::Ones => Ok(replay.left),
+        _ => Ok(replay.left),
     }
 }
