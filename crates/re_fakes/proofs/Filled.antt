@@ -4,7 +4,7 @@ use Rattle.std.specs.Prelude.{nat_le, ◌==◌, if◌then◌else◌}
 use Rattle.std.proofs.lemmas.List.{append-nil}
 use Rattle.std.proofs.lemmas.Bool.Decides.{nat_tests, leb_tells}
 use Rattle.re_outside.specs.FileAct.{FileAct, Wrote, CutTo, Synced, WriteFailed, CutFailed, SyncFailed}
-use Rattle.re_outside.specs.Image.{after, content, is_sync, up_to_sync, since_sync, asked_length, greatest_length, write_end, is_in_write, is_written, is_written_by, written, IsUnsyncedImage, IsCrashImage}
+use Rattle.re_outside.specs.Image.{after, content, is_sync, up_to_sync, since_sync, asked_length, least_length, greatest_length, write_end, is_in_write, is_written, is_written_by, written, IsUnsyncedImage, IsCrashImage}
 use Rattle.re_outside.specs.Trace.{act_of, acts_of, failed_act}
 use Rattle.re_outside.specs.declared.step.Step.{Step}
 use Rattle.re_outside.specs.declared.step.Step.TheVariants as steps
@@ -34,7 +34,7 @@ or_right : (b c : Bool) → c ≡ true → (b || c) ≡ true
 or_right true c e = refl
 or_right false c e = e
 
-or_none : (b c : Bool) → b ≡ false → c ≡ false → (b || c) ≡ false
+pub or_none : (b c : Bool) → b ≡ false → c ≡ false → (b || c) ≡ false
 or_none true c e f = absurd (cc)
 or_none false c e f = f
 
@@ -54,7 +54,11 @@ filled_fresh byte synced = record {
   kept = λ i within e. refl;
 }
 
-greatest_start : (synced : List ℕ) (acts : List FileAct) → length synced ≤ greatest_length synced acts
+pub least_start : (synced : List ℕ) (acts : List FileAct) → least_length synced acts ≤ length synced
+least_start synced [] = omega arith
+least_start synced (a ∷ acts) = omega arith
+
+pub greatest_start : (synced : List ℕ) (acts : List FileAct) → length synced ≤ greatest_length synced acts
 greatest_start synced [] = omega arith
 greatest_start synced (a ∷ acts) = omega arith
 
@@ -216,7 +220,7 @@ if_failed true kind.Size at bytes content = inl refl
 if_failed true kind.Fetch at bytes content = inl refl
 
 -- a step is at most one act of a file
-one_act : (d f : ℕ) (step : Step) → (act_of d f step ≡ []) ⊎ ((a : FileAct) × (act_of d f step ≡ a ∷ []))
+pub one_act : (d f : ℕ) (step : Step) → (act_of d f step ≡ []) ⊎ ((a : FileAct) × (act_of d f step ≡ a ∷ []))
 one_act d f (steps.Write device file at bytes) = if_one (d == device && f == file) (Wrote at bytes.items)
 one_act d f (steps.Cut device file length) = if_one (d == device && f == file) (CutTo length)
 one_act d f (steps.Sync device file) = if_one (d == device && f == file) Synced
@@ -236,9 +240,9 @@ followed_start None start d f h = (refl, refl)
 followed_start (Some byte) start d f h = (refl, filled_fresh byte (file_at start (place_of d f)))
 
 -- what a choice other than `Read` leaves
-pub chosen_left : (choice : Choice) (start : List (List ℕ)) (trace : List Step) (now left : List (List ℕ)) → choice ≢ chosen.Read → Followed (fill_of choice) start trace now left
+pub chosen_left : (choice : Choice) (start : List (List ℕ)) (trace : List Step) (reads left : List (List ℕ)) → choice ≢ chosen.Read → Followed (fill_of choice) start trace reads left
     → (d f : ℕ) → f < 2 → IsChosen choice (file_at start (place_of d f)) (acts_of d f trace) (file_at left (place_of d f))
-chosen_left chosen.Stable start trace now left other was d f h = (was d f h).1
-chosen_left chosen.Read start trace now left other was d f h = absurd (other refl)
-chosen_left chosen.Sevens start trace now left other was d f h = (was d f h).1
-chosen_left chosen.Ones start trace now left other was d f h = (was d f h).1
+chosen_left chosen.Stable start trace reads left other was d f h = (was d f h).1
+chosen_left chosen.Read start trace reads left other was d f h = absurd (other refl)
+chosen_left chosen.Sevens start trace reads left other was d f h = (was d f h).1
+chosen_left chosen.Ones start trace reads left other was d f h = (was d f h).1
