@@ -91,3 +91,11 @@ pub images_all : (choice : Choice) (start files left : List (List ℕ)) (trace :
     → ((d f : ℕ) → f < 2 → IsChosen choice (file_at start (place_of d f)) (acts_of d f (take n trace)) (file_at left (place_of d f)))
     → (d f : ℕ) → IsCrashImage (file_in start d f) (acts_of d f (take n trace)) (file_in left d f)
 images_all choice start files left trace n past each d f = chosen_image choice (file_in start d f) (acts_of d f (take n trace)) (file_in left d f) (past.possible n d f) (chosen_all choice start files left trace n past each d f)
+
+-- the same of equal steps
+pub chosen_steps : (choice : Choice) (start begun files left : List (List ℕ)) (trace steps : List Step) (n : ℕ) → IsPast start files trace → begun ≡ start → steps ≡ take n trace
+    → ((d f : ℕ) → f < 2 → IsChosen choice (file_at begun (place_of d f)) (acts_of d f steps) (file_at left (place_of d f)))
+    → (d f : ℕ) → f < 2 → IsChosen choice (file_at start (place_of d f)) (acts_of d f (take n trace)) (file_at left (place_of d f))
+chosen_steps choice start begun files left trace steps n past same are each d f h =
+    subst (λ (l : List (List ℕ)). IsChosen choice (file_at l (place_of d f)) (acts_of d f (take n trace)) (file_at left (place_of d f))) same
+    (subst (λ (l : List Step). IsChosen choice (file_at begun (place_of d f)) (acts_of d f l) (file_at left (place_of d f))) are (each d f h))

@@ -94,16 +94,12 @@ past_start start files trace same none = subst (IsPast start files) (sym none) (
     at_first zero file d f = image_none file
     at_first (suc n) file d f = image_none file
 
--- what reads give at the end can be left by a stop
-pub possible_now : (start files : List (List ℕ)) (trace : List Step) → IsPast start files trace → (d f : ℕ) → IsCrashImage (file_in start d f) (acts_of d f trace) (content (file_in start d f) (acts_of d f trace))
-possible_now start files trace past d f = subst (λ (l : List Step). IsCrashImage (file_in start d f) (acts_of d f l) (content (file_in start d f) (acts_of d f l))) (take-length trace) (past.possible (length trace) d f)
-
 -- a file in the list
 pub in_place : (files : List (List ℕ)) (d f : ℕ) → f < 2 → file_in files d f ≡ file_at files (place_of d f)
 in_place files d f h = let test : nat_lt f 2 ≡ true = grind (arith, nat_tests) in ap (λ (b : Bool). if b then file_at files (place_of d f) else []) test
 
 -- no file of the list
-not_there : (files : List (List ℕ)) (d f : ℕ) → 2 ≤ f → file_in files d f ≡ []
+pub not_there : (files : List (List ℕ)) (d f : ℕ) → 2 ≤ f → file_in files d f ≡ []
 not_there files d f h = let test : nat_lt f 2 ≡ false = grind (arith, nat_tests) in ap (λ (b : Bool). if b then file_at files (place_of d f) else []) test
 
 module _ (old new : List (List ℕ)) (device file : ℕ) (step : Step) (acts : List FileAct) (is_file : file < 2) (own : (d f : ℕ) → act_of d f step ≡ (if d == device && f == file then acts else [])) where

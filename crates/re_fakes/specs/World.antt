@@ -89,9 +89,13 @@ counted call w = record w { calls = one_more call w.calls }
 abbrev pub stepped : Step → World → World
 stepped s w = record w { trace = w.trace ++ s ∷ [] }
 
+-- the first n bytes of the input were given
+abbrev pub given : ℕ → World → World
+given n w = record w { left = drop n w.left }
+
 -- the world after a take that gave n bytes
 abbrev pub taken : ℕ → World → World
-taken n w = record w { left = drop n w.left; calls = one_more kind.Take w.calls }
+taken n w = given n (counted kind.Take w)
 
 -- the world after these bytes were said
 abbrev pub spoken : List ℕ → World → World

@@ -7,6 +7,7 @@ pub mod edits;
 pub mod fails;
 pub mod files;
 pub mod memory;
+pub mod outside;
 pub mod replay;
 pub mod stops;
 
