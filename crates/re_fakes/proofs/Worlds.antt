@@ -1,6 +1,7 @@
 -- What the calls of a world in memory do.
-use Rattle.std.proofs.Common.{◌≡◌, ◌<◌, ◌≤◌, ◌+◌, ◌^◌, ◌⊎◌, inl, inr, ℕ, min, Bool, true, false, Option, Some, None, List, [], ◌∷◌, ◌++◌, length, slice_index, take, drop, replicate, set, sym, ◌∙◌, ap, subst, refl, arith, get_or-set_same, get_or-set_other, add-zero}
-use Rattle.std.specs.Prelude.{◌==◌, if◌then◌else◌, IsSome, slice_set}
+use Rattle.std.proofs.Common.{◌≡◌, ◌<◌, ◌≤◌, ◌+◌, ◌^◌, ◌⊎◌, inl, inr, ℕ, min, Bool, true, false, Option, Some, None, List, [], ◌∷◌, ◌++◌, length, slice_index, take, drop, replicate, set, sym, ◌∙◌, ap, subst, refl, arith, get_or-set_same, get_or-set_other, add-zero, length-take}
+use Rattle.std.proofs.Math.Seq.{take-length}
+use Rattle.std.specs.Prelude.{◌==◌, if◌then◌else◌, IsSome, is_some, slice_set}
 use Rattle.std.proofs.lemmas.Bool.{cases_eq}
 use Rattle.std.proofs.lemmas.Bool.Decides.{nat_tests, leb_tells}
 use Rattle.std.proofs.lemmas.List.{append-nil}
@@ -169,3 +170,54 @@ fails_on call device file at bytes content leaves old new long small is leave (i
   failure = inl refl;
   moves = subst (λ (w : World). Moves (seen_of old) (seen_of w) [] [] (disk_fault device)) (sym none) (moves_short call (Disk device) old long (small_disk device small));
 }
+
+-- a call of the list added its step, or found no memory for it
+failed_for : (call : Call) (fault : FaultKind) (failure : Step) (old new : World) → IsSome (next_entry call old) → (new ≡ stepped failure (faulted fault (counted call old))) ⊎ (new ≡ short (faulted fault (counted call old))) → FailsFor call fault failure old new
+failed_for call fault failure old new listed (inl e) = inl (listed, e)
+failed_for call fault failure old new listed (inr e) = inr e
+
+-- a call of the list on a file that did nothing
+pub file_failed : (call : Call) (device file at : ℕ) (leaves : List ℕ → List ℕ → Type 0) (old begun faulty new : World) → length old.disk_faults ≡ 256 → device < 256 → fault_kind call device ≡ Disk device → leaves (reads_of old device file) (reads_of old device file)
+    → IsSome (next_entry call old) → begun ≡ counted call old → faulty ≡ faulted (Disk device) begun → (new ≡ stepped (file_failure call device file at faulty) faulty) ⊎ (new ≡ short faulty) → FailsOn (seen_of old) (seen_of new) call device file at [] leaves
+file_failed call device file at leaves old begun faulty new long small is leave listed counts faults ends =
+    fails_on call device file at [] (reads_of old device file) leaves old new long small is leave
+    (failed_for call (Disk device) (file_failure call device file at old) old new listed (subst (λ (w : World). (new ≡ stepped (file_failure call device file at w) w) ⊎ (new ≡ short w)) (faults ∙ ap (faulted (Disk device)) counts) ends))
+
+-- a write of the list
+pub write_failed : (device file at done : ℕ) (bytes : List ℕ) (old begun faulty new : World) → length old.disk_faults ≡ 256 → device < 256
+    → IsSome (next_entry kind.Write old) → begun ≡ counted kind.Write old → faulty ≡ faulted (Disk device) begun
+    → (new ≡ stepped (steps.Fail kind.Write device file at (plain bytes) (plain (written (reads_of faulty device file) at (take done bytes)))) faulty) ⊎ (new ≡ short faulty)
+    → FailsOn (seen_of old) (seen_of new) kind.Write device file at bytes (λ old new. IsTorn (length old) at (length bytes) old new)
+write_failed device file at done bytes old begun faulty new long small listed counts faults ends =
+    let before = reads_of old device file in
+    let torn : IsTorn (length before) at (length bytes) before (written before at (take done bytes)) = written_torn before at (take done bytes) (length bytes) (simp length-take (omega arith)) in
+    fails_on kind.Write device file at bytes (written before at (take done bytes)) (λ old new. IsTorn (length old) at (length bytes) old new) old new long small refl torn
+    (failed_for kind.Write (Disk device) (steps.Fail kind.Write device file at (plain bytes) (plain (written before at (take done bytes)))) old new listed
+    (subst (λ (w : World). (new ≡ stepped (steps.Fail kind.Write device file at (plain bytes) (plain (written (reads_of w device file) at (take done bytes)))) w) ⊎ (new ≡ short w)) (faults ∙ ap (faulted (Disk device)) counts) ends))
+
+-- a call on a file that found no memory
+pub short_failed : (call : Call) (device file at : ℕ) (bytes : List ℕ) (leaves : List ℕ → List ℕ → Type 0) (old begun new : World) → length old.disk_faults ≡ 256 → device < 256 → begun ≡ counted call old → new ≡ short (faulted (Disk device) begun)
+    → FailsOn (seen_of old) (seen_of new) call device file at bytes leaves
+short_failed call device file at bytes leaves old begun new long small counts ends = record {
+  steps = [];
+  failure = inl refl;
+  moves = subst (λ (w : World). Moves (seen_of old) (seen_of w) [] [] (disk_fault device)) (sym (ends ∙ ap (λ w. short (faulted (Disk device) w)) counts)) (moves_short call (Disk device) old long (small_disk device small));
+}
+
+-- a call of the list that takes or says
+output_noted : (call : Call) (fault : FaultKind) (old begun faulty new : World) → IsSome (next_entry call old) → begun ≡ counted call old → faulty ≡ faulted fault begun → (new ≡ stepped (output_failure call) faulty) ⊎ (new ≡ short faulty) → FailsFor call fault (output_failure call) old new
+output_noted call fault old begun faulty new listed counts faults ends = failed_for call fault (output_failure call) old new listed (subst (λ (w : World). (new ≡ stepped (output_failure call) w) ⊎ (new ≡ short w)) (faults ∙ ap (faulted fault) counts) ends)
+
+pub take_failed : (old begun faulty new : World) → length old.disk_faults ≡ 256 → IsSome (next_entry kind.Take old) → begun ≡ counted kind.Take old → faulty ≡ faulted Input begun → (new ≡ stepped (output_failure kind.Take) faulty) ⊎ (new ≡ short faulty) → Fails (seen_of old) (seen_of new) kind.Take input_fault
+take_failed old begun faulty new long listed counts faults ends = fails_take old new long (output_noted kind.Take Input old begun faulty new listed counts faults ends)
+
+pub say_failed : (old begun faulty new : World) → length old.disk_faults ≡ 256 → IsSome (next_entry kind.Say old) → begun ≡ counted kind.Say old → faulty ≡ faulted Output begun → (new ≡ stepped (output_failure kind.Say) faulty) ⊎ (new ≡ short faulty) → Fails (seen_of old) (seen_of new) kind.Say output_fault
+say_failed old begun faulty new long listed counts faults ends = fails_say old new long (output_noted kind.Say Output old begun faulty new listed counts faults ends)
+
+-- a cut that did nothing
+pub cut_nothing : (n : ℕ) (old : List ℕ) → IsCutShort n old old
+cut_nothing n old = record { no_shorter = omega arith; front = sym (take-length old) }
+
+-- an entry was found
+pub listed_some : (call : Call) (old : World) (found : Option Fail) (b : Bool) → found ≡ next_entry call old → b ≡ is_some found → b ≡ true → IsSome (next_entry call old)
+listed_some call old found b is test holds = sym (ap is_some is) ∙ sym test ∙ holds

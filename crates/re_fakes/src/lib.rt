@@ -11,6 +11,9 @@ pub mod outside;
 pub mod replay;
 pub mod stops;
 
+#[cfg(test)]
+mod tests;
+
 pub use fails::Fail;
 pub use files::Files;
 pub use memory::MemoryWorld;

@@ -9,10 +9,12 @@ pub returns-clause-chosen : goal.returns-clause-chosen
 returns-clause-chosen c =
     let disks = c.args.self.now.disks in
     chosen_all c.args.choice disks.start disks.files c.in_ok-left.left disks.trace.items c.args.step disks.past
-    (chosen_steps c.args.choice disks.start _ disks.files c.in_ok-left.left disks.trace.items _ c.args.step disks.past c.start.ensures ? (c.in_ok-left.ensures))
+    (chosen_steps c.args.choice disks.start _ disks.files c.in_ok-left.left disks.trace.items (take c.args.step c.as_slice-trace.result.now) c.args.step disks.past c.start.ensures
+    (ap (take c.args.step) (c.as_slice-trace.ensures ∙ ap (λ l. l.items) c.trace.ensures)) (c.in_ok-left.ensures))
 
 pub returns-clause-image : goal.returns-clause-image
 returns-clause-image c =
     let disks = c.args.self.now.disks in
     images_all c.args.choice disks.start disks.files c.in_ok-left.left disks.trace.items c.args.step disks.past
-    (chosen_steps c.args.choice disks.start _ disks.files c.in_ok-left.left disks.trace.items _ c.args.step disks.past c.start.ensures ? (c.in_ok-left.ensures))
+    (chosen_steps c.args.choice disks.start _ disks.files c.in_ok-left.left disks.trace.items (take c.args.step c.as_slice-trace.result.now) c.args.step disks.past c.start.ensures
+    (ap (take c.args.step) (c.as_slice-trace.ensures ∙ ap (λ l. l.items) c.trace.ensures)) (c.in_ok-left.ensures))
