@@ -1,14 +1,14 @@
 //! A world in memory, for tests: its input and files are given, and calls on a list fail.
 #![tactic(auto)]
 
-pub mod calls;
-pub mod disks;
-pub mod edits;
+mod calls;
+mod disks;
+mod edits;
 pub mod fails;
 pub mod files;
 pub mod memory;
-pub mod outside;
-pub mod replay;
+mod outside;
+mod replay;
 pub mod stops;
 
 #[cfg(test)]

@@ -10,6 +10,7 @@ use crate::MemoryWorld;
 use re_outside::{Call, Failed, Outside, Step};
 
 impl Outside for MemoryWorld {
+    ghost use Rattle.std.specs.Prelude.{refl};
     ghost use Rattle.re_fakes.specs.World.{seen_of};
     ghost use Rattle.re_fakes.specs.Told.{world_of};
     ghost use Rattle.re_fakes.specs.Past.{possible_now};
