@@ -79,12 +79,12 @@ pub chosen_all : (choice : Choice) (start files left : List (List ℕ)) (trace :
     → (d f : ℕ) → IsChosen choice (file_in start d f) (acts_of d f (take n trace)) (file_in left d f)
 chosen_all choice start files left trace n past each d f = elim (leb_tells 2 f) [
   | inl past_two ↦
-    subst (λ (l : List ℕ). IsChosen choice l (acts_of d f (take n trace)) (file_in left d f)) (sym (not_there start d f past_two.1))
-    (subst (λ (l : List FileAct). IsChosen choice [] l (file_in left d f)) (sym (no_acts_of n trace d f past_two.1 past.named))
-    (subst (λ (l : List ℕ). IsChosen choice [] [] l) (sym (not_there left d f past_two.1)) (chosen_none choice)))
+      subst (λ (l : List ℕ). IsChosen choice l (acts_of d f (take n trace)) (file_in left d f)) (sym (not_there start d f past_two.1))
+      (subst (λ (l : List FileAct). IsChosen choice [] l (file_in left d f)) (sym (no_acts_of n trace d f past_two.1 past.named))
+      (subst (λ (l : List ℕ). IsChosen choice [] [] l) (sym (not_there left d f past_two.1)) (chosen_none choice)))
   | inr within ↦
-    subst (λ (l : List ℕ). IsChosen choice l (acts_of d f (take n trace)) (file_in left d f)) (sym (in_place start d f within.1))
-    (subst (λ (l : List ℕ). IsChosen choice (file_at start (place_of d f)) (acts_of d f (take n trace)) l) (sym (in_place left d f within.1)) (each d f within.1))
+      subst (λ (l : List ℕ). IsChosen choice l (acts_of d f (take n trace)) (file_in left d f)) (sym (in_place start d f within.1))
+      (subst (λ (l : List ℕ). IsChosen choice (file_at start (place_of d f)) (acts_of d f (take n trace)) l) (sym (in_place left d f within.1)) (each d f within.1))
 ]
 
 pub images_all : (choice : Choice) (start files left : List (List ℕ)) (trace : List Step) (n : ℕ) → IsPast start files trace

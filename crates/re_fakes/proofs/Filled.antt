@@ -201,9 +201,10 @@ file_more fill start acts more (inl none) now left now' left' reads was follows 
 file_more fill start acts more (inr one) now left now' left' reads was follows =
     let a = one.0 in
     let goes : (now' ≡ after now a) × LeftBy fill a now left left' = subst (λ (l : List FileAct). Follows fill l now left now' left') one.1 follows in
-    let same : acts ++ a ∷ [] ≡ acts ++ more = ap (λ (l : List FileAct). acts ++ l) (sym one.1) in
-    (goes.0 ∙ ap (λ n. after n a) reads ∙ sym (content-append start acts (a ∷ [])) ∙ ap (content start) same,
-     subst (λ (l : List FileAct). IsLeft fill start l left') same (left_more fill start acts a left left' was (subst (λ n. LeftBy fill a n left left') reads goes.1)))
+    let same : acts ++ a ∷ [] ≡ acts ++ more = ap (λ (l : List FileAct). acts ++ l) (sym one.1) in (
+      goes.0 ∙ ap (λ n. after n a) reads ∙ sym (content-append start acts (a ∷ [])) ∙ ap (content start) same,
+      subst (λ (l : List FileAct). IsLeft fill start l left') same (left_more fill start acts a left left' was (subst (λ n. LeftBy fill a n left left') reads goes.1)),
+    )
 
 if_one : (b : Bool) (a : FileAct) → ((if b then a ∷ [] else []) ≡ []) ⊎ ((x : FileAct) × ((if b then a ∷ [] else []) ≡ x ∷ []))
 if_one true a = inr (a, refl)

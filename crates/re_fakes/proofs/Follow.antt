@@ -45,7 +45,7 @@ module _ (fill : Option ℕ) (device file : ℕ) (a : FileAct) (now left now' le
     | inl same_d ↦ elim (cases_eq f file) [
       | inr apart ↦ other_file put others d f h (inr apart)
       | inl same_f ↦ subst (λ e. FollowsAt e f (e == device && f == file)) (sym same_d) (subst (λ g. FollowsAt device g (device == device && g == file)) (sym same_f)
-        (subst (FollowsAt device file) (sym (same_test device file)) (put.own, own)))
+          (subst (FollowsAt device file) (sym (same_test device file)) (put.own, own)))
     ]
   ]
 

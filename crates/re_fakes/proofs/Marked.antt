@@ -94,6 +94,7 @@ module _ (byte size at count reached : ℕ) (old grown : List ℕ) (grows : grow
         ]
         | inr below ↦ painted_low byte from k grown inside i below.1 ∙ grown_high i past within
       ]
+
       out_of_range : (from k : ℕ) (inside : from + k ≤ length grown) → from + k ≡ write_end at count → (i : ℕ) → ((i < from) ⊎ (write_end at count ≤ i)) × (i < length old) → slice_index (written grown from (replicate k byte)) i ≡ slice_index old i
       out_of_range from k inside ends i cases = elim (cases.0) [
         | inl low ↦ painted_low byte from k grown inside i low ∙ grown_low i cases.1
@@ -113,6 +114,6 @@ pub marks_some : (fill : Option ℕ) (byte size at count reached place end from 
     → MarksAt fill place size at count reached old new
 marks_some fill byte size at count reached place end from top old mid new marks filled is_end is_from some is_top grows are put = subst (λ (f : Option ℕ). MarksAt f place size at count reached old new) (sym filled) (record {
   own = marked_some byte size at count reached (file_at old place) (file_at mid place) (grows.own ∙ ap (λ n. file_at old place ++ replicate (n - length (file_at old place)) byte) (is_top ∙ ap (λ e. max (max size e) reached) is_end))
-    (file_at new place) (omega arith) (put.own ∙ ap (written (file_at mid place) from) are ∙ (λ i. written (file_at mid place) (is_from i) (replicate (is_end i - is_from i) byte)));
+      (file_at new place) (omega arith) (put.own ∙ ap (written (file_at mid place) from) are ∙ (λ i. written (file_at mid place) (is_from i) (replicate (is_end i - is_from i) byte)));
   others = λ other apart. put.others other apart ∙ grows.others other apart;
 })

@@ -67,16 +67,16 @@ fault_counts (Disk e) old long small Input = stays old.input_faults
 fault_counts (Disk e) old long small Output = stays old.output_faults
 fault_counts (Disk e) old long small (Disk d) = elim (cases_eq d e) [
   | inl same ↦
-    let there : e < length old.disk_faults = omega (arith, small e refl) in
-    let test : (e == d) ≡ true = grind (arith, nat_tests) in
-    let is : slice_index (set old.disk_faults e (raised (slice_index old.disk_faults e))) d ≡ raised (slice_index old.disk_faults d) =
-    subst (λ n. slice_index (set old.disk_faults e (raised (slice_index old.disk_faults e))) n ≡ raised (slice_index old.disk_faults n)) (sym same) (get_or-set_same old.disk_faults e (raised (slice_index old.disk_faults e)) 0 there) in
-    subst (λ (b : Bool). Counts (if b then 1 else 0) (slice_index old.disk_faults d) (slice_index (set old.disk_faults e (raised (slice_index old.disk_faults e))) d)) (sym test) (rises (slice_index old.disk_faults d) _ is)
+      let there : e < length old.disk_faults = omega (arith, small e refl) in
+      let test : (e == d) ≡ true = grind (arith, nat_tests) in
+      let is : slice_index (set old.disk_faults e (raised (slice_index old.disk_faults e))) d ≡ raised (slice_index old.disk_faults d) =
+      subst (λ n. slice_index (set old.disk_faults e (raised (slice_index old.disk_faults e))) n ≡ raised (slice_index old.disk_faults n)) (sym same) (get_or-set_same old.disk_faults e (raised (slice_index old.disk_faults e)) 0 there) in
+      subst (λ (b : Bool). Counts (if b then 1 else 0) (slice_index old.disk_faults d) (slice_index (set old.disk_faults e (raised (slice_index old.disk_faults e))) d)) (sym test) (rises (slice_index old.disk_faults d) _ is)
   | inr apart ↦
-    let test : (e == d) ≡ false = grind (arith, nat_tests) in
-    let is = get_or-set_other old.disk_faults e d (raised (slice_index old.disk_faults e)) 0 apart in
-    subst (λ (b : Bool). Counts (if b then 1 else 0) (slice_index old.disk_faults d) (slice_index (set old.disk_faults e (raised (slice_index old.disk_faults e))) d)) (sym test)
-    (subst (Counts 0 (slice_index old.disk_faults d)) (sym is) (stays (slice_index old.disk_faults d)))
+      let test : (e == d) ≡ false = grind (arith, nat_tests) in
+      let is = get_or-set_other old.disk_faults e d (raised (slice_index old.disk_faults e)) 0 apart in
+      subst (λ (b : Bool). Counts (if b then 1 else 0) (slice_index old.disk_faults d) (slice_index (set old.disk_faults e (raised (slice_index old.disk_faults e))) d)) (sym test)
+      (subst (Counts 0 (slice_index old.disk_faults d)) (sym is) (stays (slice_index old.disk_faults d)))
 ]
 
 -- the world but for its counts of faults is as it was
@@ -163,7 +163,7 @@ fails_on call device file at bytes content leaves old new long small is leave (i
   steps = steps.Fail call device file at (plain bytes) (plain content) ∷ [];
   failure = inr (content, leave, refl);
   moves = subst (λ (w : World). Moves (seen_of old) (seen_of w) [] (steps.Fail call device file at (plain bytes) (plain content) ∷ []) (disk_fault device)) (sym noted.1)
-    (moves_failed call (Disk device) old long (small_disk device small) (steps.Fail call device file at (plain bytes) (plain content)) (λ kind. add-zero _ ∙ ap (λ k. one_fault k kind) is));
+      (moves_failed call (Disk device) old long (small_disk device small) (steps.Fail call device file at (plain bytes) (plain content)) (λ kind. add-zero _ ∙ ap (λ k. one_fault k kind) is));
 }
 fails_on call device file at bytes content leaves old new long small is leave (inr none) = record {
   steps = [];

@@ -8,8 +8,8 @@ ghost use Rattle.re_outside.specs.declared.step.Call.TheVariants.{Write as Write
 ghost use Rattle.re_fakes.specs.Files.{file_in};
 ghost use Rattle.re_fakes.specs.Past.{IsPast};
 
-use crate::edits::write_over;
 use crate::Files;
+use crate::edits::write_over;
 use re_outside::{Bytes, Call, Step};
 use re_terms::{Seq, TryCopy};
 use std::alloc::{AllocError, Global};

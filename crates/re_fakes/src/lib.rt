@@ -10,7 +10,6 @@ pub mod memory;
 mod outside;
 mod replay;
 pub mod stops;
-
 #[cfg(test)]
 mod tests;
 

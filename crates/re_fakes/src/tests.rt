@@ -49,7 +49,11 @@ fn gives_its_input_and_keeps_what_is_said(rt: HostRuntime) -> Result<(), TestFai
 
 #[test]
 fn keeps_files_apart_and_fills_gaps(rt: HostRuntime) -> Result<(), TestFail> {
-    let mut world = world(rt.alloc(), &[b"".as_slice(), b"".as_slice(), b"ab".as_slice()], &[])?;
+    let mut world = world(
+        rt.alloc(),
+        &[b"".as_slice(), b"".as_slice(), b"ab".as_slice()],
+        &[],
+    )?;
     assert_eq!(rt; world.write(1, 0, 4, b"cd".as_slice()), Ok(()));
     assert_eq!(rt; world.write(1, 1, 0, b"".as_slice()), Ok(()));
     assert_eq!(rt; world.write(0, 1, 1, b"z".as_slice()), Ok(()));
@@ -119,12 +123,21 @@ fn a_failed_write_makes_its_first_bytes(rt: HostRuntime) -> Result<(), TestFail>
         (9, b"ab\0xy".as_slice()),
     ];
     for (done, left) in rows {
-        let mut world = world(rt.alloc(), &[b"ab".as_slice()], &[fail(Call::Write, 1, done)])?;
+        let mut world = world(
+            rt.alloc(),
+            &[b"ab".as_slice()],
+            &[fail(Call::Write, 1, done)],
+        )?;
         assert_eq!(rt; world.write(0, 0, 3, b"xy".as_slice()), Err(Failed));
         assert_eq!(rt; world.files().bytes(0, 0), left);
-        if let Some(Step::Fail {
-            at, bytes, content, ..
-        }) = world.trace().get(0)
+        if let Some(
+            Step::Fail {
+                at,
+                bytes,
+                content,
+                ..
+            },
+        ) = world.trace().get(0)
         {
             assert_eq!(rt; *at, 3);
             assert_eq!(rt; bytes.as_slice(), b"xy".as_slice());
@@ -152,12 +165,48 @@ fn short_history(alloc: Global) -> Result<MemoryWorld, AllocError> {
 fn stops_leave_what_each_choice_takes(rt: HostRuntime) -> Result<(), TestFail> {
     let world = short_history(rt.alloc())?;
     let rows = [
-        (0, b"ab".as_slice(), b"ab".as_slice(), [97, 98].as_slice(), [97, 98].as_slice()),
-        (1, b"ab".as_slice(), b"ab\0xy".as_slice(), [97, 98, 7, 7, 7].as_slice(), [97, 98, 1, 1, 1].as_slice()),
-        (2, b"ab".as_slice(), b"a".as_slice(), [97, 98, 7, 7, 7].as_slice(), [97, 98, 1, 1, 1].as_slice()),
-        (3, b"a".as_slice(), b"a".as_slice(), [97].as_slice(), [97].as_slice()),
-        (4, b"a".as_slice(), b"p".as_slice(), [7, 7].as_slice(), [1, 1].as_slice()),
-        (5, b"a".as_slice(), b"p".as_slice(), [7, 7].as_slice(), [1, 1].as_slice()),
+        (
+            0,
+            b"ab".as_slice(),
+            b"ab".as_slice(),
+            [97, 98].as_slice(),
+            [97, 98].as_slice(),
+        ),
+        (
+            1,
+            b"ab".as_slice(),
+            b"ab\0xy".as_slice(),
+            [97, 98, 7, 7, 7].as_slice(),
+            [97, 98, 1, 1, 1].as_slice(),
+        ),
+        (
+            2,
+            b"ab".as_slice(),
+            b"a".as_slice(),
+            [97, 98, 7, 7, 7].as_slice(),
+            [97, 98, 1, 1, 1].as_slice(),
+        ),
+        (
+            3,
+            b"a".as_slice(),
+            b"a".as_slice(),
+            [97].as_slice(),
+            [97].as_slice(),
+        ),
+        (
+            4,
+            b"a".as_slice(),
+            b"p".as_slice(),
+            [7, 7].as_slice(),
+            [1, 1].as_slice(),
+        ),
+        (
+            5,
+            b"a".as_slice(),
+            b"p".as_slice(),
+            [7, 7].as_slice(),
+            [1, 1].as_slice(),
+        ),
     ];
     for (step, stable, read, sevens, ones) in rows {
         let choices = [

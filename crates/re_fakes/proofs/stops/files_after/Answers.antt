@@ -18,8 +18,8 @@ loop-step-preserved c =
     record {
       fill = c.follow.ensures.fill ∙ was.fill;
       followed = subst (λ (trace : List Step). Followed (fill_of c.args.choice) c.args.start.now trace c.follow.new.self.now c.follow.new.self.left)
-        (ap (λ (s : Step). take c.loop-step.step-index c.args.steps.now ++ s ∷ []) c.step-item.is ∙ sym (take_more c.args.steps.now c.loop-step.step-index c.step-item.result c.loop-step-test.true))
-        (followed_more (fill_of c.args.choice) c.args.start.now (take c.loop-step.step-index c.args.steps.now) c.step-item.result _ _ _ _ was.followed step);
+          (ap (λ (s : Step). take c.loop-step.step-index c.args.steps.now ++ s ∷ []) c.step-item.is ∙ sym (take_more c.args.steps.now c.loop-step.step-index c.step-item.result c.loop-step-test.true))
+          (followed_more (fill_of c.args.choice) c.args.start.now (take c.loop-step.step-index c.args.steps.now) c.step-item.result _ _ _ _ was.followed step);
     }
 
 pub returns-in-Read : goal.returns-in-Read

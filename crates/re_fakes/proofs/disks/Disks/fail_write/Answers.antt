@@ -12,8 +12,8 @@ invariant_of-self-2 c =
     let made : c.write_over.new.file.items ≡ written c.in_ok-content.content.items c.args.at (take c.args.done c.args.bytes.now) = search rules in
     record {
       past = past_added old.start old.files c.put.new.self old.trace.items c.reserve.new.self.items c.add.new.trace.items _ old.past
-        (makes_fail_write old.files c.put.new.self c.args.device c.args.file c.args.at c.args.done c.in_ok-from_slice.field-0 c.in_ok-from_slice-2.field-0 c.args.bytes.now c.write_over.new.file.items c.requires.file c.requires.some
-        (ap (λ (l : Listed ℕ). l.items) (c.in_ok-from_slice.ensures)) (ap (λ (l : Listed ℕ). l.items) (c.in_ok-from_slice-2.ensures) ∙ c.as_slice.ensures)
-        (made ∙ ap (λ (l : List ℕ). written l c.args.at (take c.args.done c.args.bytes.now)) before) (c.in_ok-put.ensures.ok))
-        (ap (λ l. l.items) (c.in_ok-reserve.ensures.ok)) c.add.ensures;
+          (makes_fail_write old.files c.put.new.self c.args.device c.args.file c.args.at c.args.done c.in_ok-from_slice.field-0 c.in_ok-from_slice-2.field-0 c.args.bytes.now c.write_over.new.file.items c.requires.file c.requires.some
+          (ap (λ (l : Listed ℕ). l.items) (c.in_ok-from_slice.ensures)) (ap (λ (l : Listed ℕ). l.items) (c.in_ok-from_slice-2.ensures) ∙ c.as_slice.ensures)
+          (made ∙ ap (λ (l : List ℕ). written l c.args.at (take c.args.done c.args.bytes.now)) before) (c.in_ok-put.ensures.ok))
+          (ap (λ l. l.items) (c.in_ok-reserve.ensures.ok)) c.add.ensures;
     }
