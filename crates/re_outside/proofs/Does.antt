@@ -1,8 +1,10 @@
 -- Steps one behind the other.
+use Rattle.std.specs.Prelude.{if◌then◌else◌}
+use Rattle.std.proofs.lemmas.Bool.Decides.{nat_tests}
 use Rattle.std.proofs.Common.{arith, ℕ, ◌≡◌, ◌+◌, ◌≤◌, List, [], ◌∷◌, ◌++◌, take, drop, sym, ◌∙◌, ap, subst, refl, inl, inr, append_assoc, true, Bool}
 use Rattle.std.proofs.lemmas.List.{append-nil, take-append-drop, take-take, drop-take}
 use Rattle.re_outside.specs.Listed.{plain}
-use Rattle.re_outside.specs.Outside.{said, FaultKind, Faults, none, one_fault, input_fault, output_fault, fault_kind, plus, failures, Seen, Counts, Moves, IsOutput, AreOutputs, IsFailure, Fails, DoesWith, Does, BreaksWith, Breaks, IsAtEnd}
+use Rattle.re_outside.specs.Outside.{said, FaultKind, Input, Output, Disk, is_kind, AreSays, Faults, none, one_fault, input_fault, output_fault, fault_kind, plus, failures, Seen, Counts, Moves, IsOutput, AreOutputs, IsFailure, Fails, DoesWith, Does, Breaks, IsAtEnd}
 use Rattle.re_outside.specs.declared.step.Call.{Call}
 use Rattle.re_outside.specs.declared.step.Call.TheVariants as kind
 use Rattle.re_outside.specs.declared.step.Step.{Step}
@@ -217,3 +219,20 @@ does_as a b r t t' f f' p e q = record {
   holds = p.holds;
   moves = subst (Moves a b r p.steps) q p.moves;
 }
+
+same_kind : (k : FaultKind) → is_kind k k ≡ true
+same_kind Input = refl
+same_kind Output = refl
+same_kind (Disk d) = grind (arith, nat_tests)
+
+-- steps that touch no file and hold no failure say something each
+pub says_alone : (steps : List Step) (f : Faults) → AreOutputs steps → ((k : FaultKind) → failures steps k ≤ f k) → ((k : FaultKind) → f k ≡ 0) → AreSays steps
+says_alone [] f o counted zero = tt
+says_alone (Say bytes ∷ steps) f o counted zero = says_alone steps f o counted zero
+says_alone (Write device file at bytes ∷ steps) f o counted zero = absurd o
+says_alone (Cut device file length ∷ steps) f o counted zero = absurd o
+says_alone (Sync device file ∷ steps) f o counted zero = absurd o
+says_alone (Fail call device file at bytes content ∷ steps) f o counted zero =
+    let k = fault_kind call device in
+    let one : one_fault k k ≡ 1 = ap (λ (b : Bool). if b then 1 else 0) (same_kind k) in
+    absurd (omega (arith, one, counted k, zero k))

@@ -1,3 +1,16 @@
 pub mod Acts
+pub mod Calls
 pub mod Does
+pub mod Elsewhere
+pub mod Frames
+pub mod Honest
+pub mod Lifted
+pub mod Images
+pub mod Moments
+pub mod Ops
 pub mod Ports
+pub mod Readings
+pub mod Safe
+pub mod Steps
+pub mod Stores
+pub mod Written

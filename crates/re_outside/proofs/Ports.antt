@@ -1,13 +1,13 @@
 -- What a call of a port changes of the outside behind it.
 use Rattle.std.specs.Prelude.{◌==◌, ◌&&◌, if◌then◌else◌, Result, Ok, Err, OnOk, OnErr}
-use Rattle.std.proofs.Common.{◌≡◌, ◌⊎◌, inl, inr, ℕ, ◌+◌, ◌≤◌, Bool, true, false, List, [], ◌∷◌, ◌++◌, refl, sym, ◌∙◌, ap, subst, arith}
+use Rattle.std.proofs.Common.{◌≡◌, inl, inr, ℕ, Bool, true, false, List, [], ◌∷◌, ◌++◌, refl, sym, ◌∙◌, ap, subst}
 use Rattle.std.proofs.lemmas.List.{append-nil}
 use Rattle.re_outside.specs.Listed.{Listed, plain}
 use Rattle.re_outside.specs.FileAct.{FileAct, Wrote, CutTo, Synced}
 use Rattle.re_outside.specs.Image.{content}
-use Rattle.re_outside.specs.Trace.{Past, acts_of, act_of, failed_act, with_steps}
-use Rattle.re_outside.specs.Outside.{FaultKind, Disk, is_kind, Faults, none, disk_fault, Counts, Seen, content_in, Moves, FailsOn}
-use Rattle.re_outside.specs.Port.{Rest, past_in, rest_in, other_faults, other_files, disk_faults}
+use Rattle.re_outside.specs.Trace.{acts_of, failed_act}
+use Rattle.re_outside.specs.Outside.{FaultKind, Disk, is_kind, Faults, none, disk_fault, Seen, content_in, Moves, FailsOn}
+use Rattle.re_outside.specs.Port.{rest_in, other_faults, other_files}
 use Rattle.re_outside.specs.declared.step.Call.{Call}
 use Rattle.re_outside.specs.declared.step.Step.{Step}
 use Rattle.re_outside.specs.declared.step.Step.TheVariants as steps

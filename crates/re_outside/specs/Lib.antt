@@ -1,4 +1,5 @@
 pub mod FileAct
+pub mod Frame
 pub mod Image
 pub mod Listed
 pub mod Moment

@@ -166,6 +166,15 @@ AreOutputs (Cut device file length ∷ steps) = ⊥
 AreOutputs (Sync device file ∷ steps) = ⊥
 AreOutputs (Fail call device file at bytes content ∷ steps) = IsOutput call × AreOutputs steps
 
+-- each step says something
+abbrev pub AreSays : List Step → Type 0
+AreSays [] = Unit
+AreSays (Say bytes ∷ steps) = AreSays steps
+AreSays (Write device file at bytes ∷ steps) = ⊥
+AreSays (Cut device file length ∷ steps) = ⊥
+AreSays (Sync device file ∷ steps) = ⊥
+AreSays (Fail call device file at bytes content ∷ steps) = ⊥
+
 -- moves by some steps that say this text and have P
 pub record DoesWith (P : List Step → Type 0) (old new : Seen) (read text : List ℕ) (faults : Faults) : Type 0 where
   pub steps : List Step

@@ -1,7 +1,7 @@
 -- One device's disk over an outside.
-use Rattle.std.specs.Prelude.{ℕ, ◌==◌, ◌&&◌, ◌||◌, not, Bool, if◌then◌else◌, List, []}
+use Rattle.std.specs.Prelude.{ℕ, ◌==◌, Bool, if◌then◌else◌, List, []}
 use Rattle.re_outside.specs.Trace.{Past}
-use Rattle.re_outside.specs.Outside.{FaultKind, Disk, is_kind, Faults, Seen, content_in}
+use Rattle.re_outside.specs.Outside.{Disk, is_kind, Faults, Seen, content_in}
 
 -- what no call of a disk changes: which reference is behind it, all counts but the disk's own, and, where they are told, the input
 -- left, what the files of other devices hold, and what all files held before the first step

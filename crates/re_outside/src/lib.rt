@@ -3,6 +3,7 @@
 
 pub mod bytes;
 pub mod disk;
+pub mod laws;
 pub mod outside;
 pub mod port;
 pub mod step;

@@ -1,8 +1,7 @@
-use Rattle.std.proofs.Common.{◌≡◌, [], ◌∷◌, length, ℕ, List}
-use Rattle.re_outside.specs.Listed.{plain}
-use Rattle.re_outside.specs.Image.{IsTorn, IsCutShort, IsUnchanged}
+use Rattle.std.proofs.Common.{[]}
+use Rattle.re_outside.specs.Image.{IsUnchanged}
 use Rattle.re_outside.specs.declared.step.Call.TheVariants as calls
-use Rattle.re_outside.proofs.Ports.{rest_done, rest_failed, none_of, write_of, cut_of, sync_of, either_way}
+use Rattle.re_outside.proofs.Ports.{rest_done, rest_failed, sync_of, either_way}
 use Rattle.re_outside.proofs.port.PortDisk.sync.Goals as goal
 
 pub returns-clause-rest : goal.returns-clause-rest

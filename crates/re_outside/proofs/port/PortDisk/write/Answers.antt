@@ -1,8 +1,8 @@
-use Rattle.std.proofs.Common.{◌≡◌, [], ◌∷◌, length, ℕ, List}
+use Rattle.std.proofs.Common.{length}
 use Rattle.re_outside.specs.Listed.{plain}
-use Rattle.re_outside.specs.Image.{IsTorn, IsCutShort, IsUnchanged}
+use Rattle.re_outside.specs.Image.{IsTorn}
 use Rattle.re_outside.specs.declared.step.Call.TheVariants as calls
-use Rattle.re_outside.proofs.Ports.{rest_done, rest_failed, none_of, write_of, cut_of, sync_of, either_way}
+use Rattle.re_outside.proofs.Ports.{rest_done, rest_failed, write_of, either_way}
 use Rattle.re_outside.proofs.port.PortDisk.write.Goals as goal
 
 pub returns-clause-rest : goal.returns-clause-rest
