@@ -1,8 +1,8 @@
 -- The list of calls that fail.
-use Rattle.std.specs.Prelude.{ℕ, ◌==◌, ◌&&◌, Bool, true, false, List, Option, find}
+use Rattle.std.specs.Prelude.{ℕ, ◌==◌, ◌&&◌, Bool, true, false, List, Option, None, Some, find}
 use Rattle.re_outside.specs.declared.step.Call.{Call}
 use Rattle.re_outside.specs.declared.step.Call.TheVariants.{Take, Say, Size, Fetch, Write, Cut, Sync}
-use Rattle.re_fakes.specs.declared.files.Fail.{Fail}
+use Rattle.re_fakes.specs.declared.fails.Fail.{Fail}
 
 -- two calls are of one kind
 abbrev pub same_call : Call → Call → Bool
@@ -22,3 +22,8 @@ fits call number fail = same_call fail.call call && (fail.nth == number)
 -- the entry that speaks of this call, the first where there are several
 abbrev pub entry : Call → ℕ → List Fail → Option Fail
 entry call number fails = find (fits call number) fails
+
+-- how many bytes of a write are made where an entry speaks of it
+abbrev pub done_of : Option Fail → ℕ
+done_of None = 0
+done_of (Some fail) = fail.done

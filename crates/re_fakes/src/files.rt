@@ -1,15 +1,17 @@
-//! The files of a world in memory, and its list of failing calls.
-ghost use Rattle.std.specs.Prelude.{◌≡◌, ◌+◌, IfOk};
-ghost use Rattle.re_fakes.specs.Fails.{fits, entry};
+//! The files of all devices.
+ghost use Rattle.std.specs.Prelude.{◌≡◌, ◌<◌, ◌+◌, ◌-◌, ◌^◌, ◌++◌, length, take, replicate, OnOk, OnErr};
+ghost use Rattle.re_outside.specs.Image.{written};
+ghost use Rattle.re_fakes.specs.Files.{place_of, file_at, SameFiles, IsPut};
 
-use re_outside::{Bytes, Call};
+use crate::edits::{grow_to, write_over};
+use re_outside::Bytes;
 use re_terms::{Seq, TryCopy};
 use std::alloc::{AllocError, Global};
 use std::marker::Model;
 
 /// The files of all devices: the bytes of file `F` of device `D` stand at place `2 * D + F`.
 ///
-/// A place that isn't there is an empty file. Contracts see the list of the files.
+/// A place that isn't there is an empty file. Contracts see a list of bytes for each place.
 #[derive(Drop)]
 pub struct Files {
     pub list: Seq<Bytes>,
@@ -17,11 +19,11 @@ pub struct Files {
 
 impl Model for Files {
     ghost use Rattle.std.specs.Prelude.{ℕ, List};
-    ghost use Rattle.re_outside.specs.Listed.{Listed};
+    ghost use Rattle.re_fakes.specs.Files.{all_bytes};
 
-    ghost Value = { List (Listed ℕ) };
+    ghost Value = { List (List ℕ) };
 
-    ghost view = { λ f. f.list.items };
+    ghost view = { λ f. all_bytes f.list.items };
 }
 
 impl TryCopy for Files {
@@ -35,40 +37,126 @@ impl TryCopy for Files {
     }
 }
 
-/// An entry of the list of failing calls: the `nth` call of its kind fails, counted from 1 over
-/// all devices.
-///
-/// A failed write has written its first `done` bytes, and all of them where it has no more.
-#[derive(Clone, Copy, Debug, PartialEq, Eq)]
-pub struct Fail {
-    pub call: Call,
-    pub nth: u64,
-    pub done: u32,
+/// The place of a file of a device in the list.
+fn place_of(device: u8, file: u8) -> usize
+    ensures { result ≡ place_of device file }
+{
+    2 * device as usize + file as usize
 }
 
-impl TryCopy for Fail {
-    fn copy(&self, _alloc: Global) -> Result<Fail, AllocError> {
-        Ok(*self)
-    }
-}
-
-impl Fail {
-    /// Whether it speaks of the next call of this kind, where `before` were made.
-    pub fn fits(&self, call: Call, before: u64) -> bool
-        ensures { result ≡ fits call (before + 1) self.now }
+impl Files {
+    /// The bytes of a file of a device, none where it isn't in the list.
+    pub fn bytes(&self, device: u8, file: u8) -> &[u8]
+        ensures { result.now ≡ file_at self.now (place_of device file) }
     {
-        let nth = self.nth;
-        match before.checked_add(1) {
-            Some(number) => self.call == call && nth == number,
-            None => false,
+        match self.list.get(place_of(device, file)) {
+            Some(bytes) => bytes.as_slice(),
+            None => &[],
         }
     }
-}
 
-/// The entry that speaks of the next call of this kind, where `before` were made: the first in
-/// the list, where it has several.
-pub(crate) fn entry(fails: &[Fail], call: Call, before: u64) -> Option<Fail>
-    ensures { result ≡ entry call (before + 1) fails.now }
-{
-    fails.iter().copied().find(|fail| fail.fits(call, before))
+    /// Writes the bytes over those of a file from place `at` on, behind zeros where that is past
+    /// its end.
+    ///
+    /// It takes time for what it writes. The one refusal is want of memory, and leaves the files
+    /// as they were.
+    pub(crate) fn write(
+        &mut self,
+        alloc: Global,
+        device: u8,
+        file: u8,
+        at: usize,
+        bytes: &[u8],
+    ) -> Result<(), AllocError>
+        requires { at + length bytes.now < 2 ^ 64 }
+        ensures ok { OnOk result (IsPut self.old self.new (place_of device file) (written (file_at self.old (place_of device file)) at bytes.now)) }
+        ensures err { OnErr result (SameFiles self.old self.new) }
+    {
+        let place = place_of(device, file);
+        self.reach(alloc, place)?;
+        let mut edited = self.list.replace(place, Bytes::new(alloc));
+        match write_over(&mut edited, at, bytes) {
+            Ok(()) => {
+                self.list.set(place, edited);
+                Ok(())
+            }
+            Err(error) => {
+                self.list.set(place, edited);
+                Err(error)
+            }
+        }
+    }
+
+    /// Makes a file at least this long, with this byte behind its end.
+    ///
+    /// The one refusal is want of memory, and leaves the files as they were.
+    pub(crate) fn grow(
+        &mut self,
+        alloc: Global,
+        device: u8,
+        file: u8,
+        size: usize,
+        byte: u8,
+    ) -> Result<(), AllocError>
+        ensures ok { OnOk result (IsPut self.old self.new (place_of device file) (let old = file_at self.old (place_of device file) in old ++ replicate (size - length old) byte)) }
+        ensures err { OnErr result (SameFiles self.old self.new) }
+    {
+        let place = place_of(device, file);
+        self.reach(alloc, place)?;
+        let mut edited = self.list.replace(place, Bytes::new(alloc));
+        match grow_to(&mut edited, size, byte) {
+            Ok(()) => {
+                self.list.set(place, edited);
+                Ok(())
+            }
+            Err(error) => {
+                self.list.set(place, edited);
+                Err(error)
+            }
+        }
+    }
+
+    /// Keeps the first `n` bytes of a file.
+    pub(crate) fn cut(&mut self, alloc: Global, device: u8, file: u8, n: usize)
+        ensures { IsPut self.old self.new (place_of device file) (take n (file_at self.old (place_of device file))) }
+    {
+        let place = place_of(device, file);
+        if place < self.list.len() {
+            let mut edited = self.list.replace(place, Bytes::new(alloc));
+            edited.truncate(n);
+            self.list.set(place, edited);
+        }
+    }
+
+    /// Puts these bytes in the place of a file's.
+    ///
+    /// The one refusal is want of memory, and leaves the files as they were.
+    pub(crate) fn put(
+        &mut self,
+        alloc: Global,
+        device: u8,
+        file: u8,
+        bytes: Bytes,
+    ) -> Result<(), AllocError>
+        ensures ok { OnOk result (IsPut self.old self.new (place_of device file) bytes.items) }
+        ensures err { OnErr result (SameFiles self.old self.new) }
+    {
+        let place = place_of(device, file);
+        self.reach(alloc, place)?;
+        self.list.set(place, bytes);
+        Ok(())
+    }
+
+    /// Puts empty files behind the others until the list has this place.
+    ///
+    /// The one refusal is want of memory.
+    fn reach(&mut self, alloc: Global, place: usize) -> Result<(), AllocError>
+        ensures there { OnOk result (place < length self.new) }
+        ensures same { SameFiles self.old self.new }
+    {
+        while self.list.len() <= place {
+            self.list.push(Bytes::new(alloc))?;
+        }
+        Ok(())
+    }
 }

@@ -1,58 +1,47 @@
 //! The world in memory.
-ghost use Rattle.std.specs.Prelude.{◌≡◌, ◌≤◌, ◌<◌, ◌+◌, ◌++◌, [], ◌∷◌, length, take, min, IfOk, OnOk, OnErr, IsSome, IsNone, ◌⊎◌};
-ghost use Rattle.re_outside.specs.Listed.{plain};
-ghost use Rattle.re_outside.specs.Outside.{Moves, Fails, IsAtEnd, none, input_fault, output_fault};
-ghost use Rattle.re_fakes.specs.Fails.{entry};
-ghost use Rattle.re_fakes.specs.World.{seen_of, new_world, taken, spoken, failed_take, failed_say, noted, short, FailsFor};
+ghost use Rattle.std.specs.Prelude.{ℕ, ◌≡◌, ◌≤◌, ◌<◌, length};
 
-use crate::files::entry;
-use crate::{Fail, Files};
-use re_outside::{Bytes, Call, Failed, Outside, Step};
+use crate::calls::Calls;
+use crate::disks::Disks;
+use crate::fails::entry;
+use crate::stops::files_after;
+use crate::{Choice, Fail, Files};
+use re_outside::{Call, Failed, Step};
 use re_terms::Seq;
 use std::alloc::{AllocError, Global};
-use std::marker::Model;
 
 /// A world in memory, with given input and files, in which the calls of a list fail.
 ///
-/// Contracts see the input left, the files, the steps so far, the list, how many calls of each
-/// kind were made, and the counts of faults and of calls that found no memory for their step.
+/// Contracts see the input left, the files before the first step, the steps so far, the list,
+/// how many calls of each kind were made, and the counts of faults and of calls that found no
+/// memory. What reads give of the files follows from the steps.
 #[derive(Drop)]
 pub struct MemoryWorld {
     alloc: Global,
     input: Vec<u8>,
     at: usize,
-    files: Files,
+    disks: Disks,
     fails: Seq<Fail>,
-    trace: Seq<Step>,
-    takes: u64,
-    says: u64,
+    calls: Calls,
     input_faults: u64,
     output_faults: u64,
+    disk_faults: Seq<u64>,
     shorts: u64,
-}
-
-impl Model for MemoryWorld {
-    ghost use Rattle.std.specs.Prelude.{◌≤◌, drop, length};
-    ghost use Rattle.re_fakes.specs.World.{World};
-
-    ghost Value = { World };
-
-    ghost view = { λ w. record {
-      left = drop w.at w.input.items;
-      files = w.files;
-      trace = w.trace.items;
-      fails = w.fails.items;
-      takes = w.takes;
-      says = w.says;
-      input_faults = w.input_faults;
-      output_faults = w.output_faults;
-      shorts = w.shorts;
-    } };
-
-    ghost invariant = { λ w. w.at ≤ length w.input.items };
+    ghost in_range: { at ≤ length input.items },
+    ghost counted: { length disk_faults.items ≡ 256 },
 }
 
 impl MemoryWorld {
+    ghost use Rattle.std.specs.Prelude.{◌+◌, ◌^◌, ◌⊎◌, ◌++◌, min, IfOk, OnOk, OnErr, IfSome, IsNone, ◌↔◌, take};
+    ghost use Rattle.re_outside.specs.Image.{written};
+    ghost use Rattle.re_outside.specs.Listed.{plain};
+    ghost use Rattle.re_outside.specs.Trace.{acts_of, IsJointImage};
+    ghost use Rattle.re_outside.specs.Outside.{Input, Output, Disk, IsOutput};
+    ghost use Rattle.re_fakes.specs.Files.{file_in};
+    ghost use Rattle.re_fakes.specs.Stops.{IsChosen};
+    ghost use Rattle.re_fakes.specs.World.{new_world, next_entry, counted as with_call, faulted, short, stepped, given, output_failure, file_failure, reads_of, moment_at};
+    ghost use Rattle.re_fakes.specs.Told.{world_of};
+
     /// A world with this input and these files, in which the calls of the list fail.
     ///
     /// Its trace is empty, and all its counts are 0. The one refusal is want of memory.
@@ -62,209 +51,228 @@ impl MemoryWorld {
         files: Files,
         fails: Seq<Fail>,
     ) -> Result<MemoryWorld, AllocError>
-        ensures { IfOk result (λ world. world ≡ new_world input.now files fails.items) }
+        ensures { IfOk result (λ world. world_of world ≡ new_world input.now files fails.items) }
     {
+        let disk_faults = vec![in alloc; 0u64; 256]?;
         Ok(MemoryWorld {
             alloc,
             input: input.to_vec(alloc)?,
             at: 0,
-            files,
+            disks: Disks::new(alloc, files)?,
             fails,
-            trace: Seq::new(alloc),
-            takes: 0,
-            says: 0,
+            calls: Calls::new(),
             input_faults: 0,
             output_faults: 0,
+            disk_faults: Seq::from_vec(disk_faults),
             shorts: 0,
         })
     }
 
     /// The steps so far, in order.
     pub fn trace(&self) -> &Seq<Step>
-        ensures { result.now.items ≡ self.now.trace }
+        ensures { result.now.items ≡ (world_of self.now).trace }
     {
-        &self.trace
+        self.disks.trace()
     }
 
-    /// What reads of the files give.
+    /// What reads of the files give, which is what the steps made of them.
     pub fn files(&self) -> &Files
-        ensures { result.now ≡ self.now.files }
+        ensures { (device file : ℕ) → file_in result.now device file ≡ reads_of (world_of self.now) device file }
     {
-        &self.files
+        self.disks.files()
     }
 
-    /// How many calls found no memory for their step. At 2^64 - 1 it stays.
+    /// How many calls found no memory for their step or for a file. At 2^64 - 1 it stays.
     pub fn shorts(&self) -> u64
-        ensures { result ≡ self.now.shorts }
+        ensures { result ≡ (world_of self.now).shorts }
     {
         self.shorts
     }
 
-    /// Adds the step of a failed call that needs no field, or counts it as short of memory.
-    fn note_fail(&mut self, call: Call)
-        ensures { (self.new ≡ noted call self.old) ⊎ (self.new ≡ short self.old) }
+    /// What a choice takes to be left of the files by a stop after the first `step` steps.
+    ///
+    /// It is `None` exactly where `step` passes the length of the trace. The one refusal is want
+    /// of memory.
+    pub fn stop_at(&self, step: u64, choice: Choice) -> Result<Option<Files>, AllocError>
+        ensures passed { IfOk result (λ left. IsNone left ↔ (length (world_of self.now).trace < step)) }
+        ensures chosen { IfOk result (λ left. IfSome left (λ files. (device file : ℕ) → IsChosen choice (file_in (world_of self.now).start device file) (acts_of device file (take step (world_of self.now).trace)) (file_in files device file))) }
+        ensures image { IfOk result (λ left. IfSome left (λ files. IsJointImage (moment_at (world_of self.now) step) (file_in files))) }
     {
-        let step = Step::Fail {
-            call,
-            device: 0,
-            file: 0,
-            at: 0,
-            bytes: Bytes::new(self.alloc),
-            content: Bytes::new(self.alloc),
-        };
-        if self.trace.push(step).is_err() {
-            self.shorts = self.shorts.saturating_add(1);
+        let trace = self.disks.trace().as_slice();
+        if step > trace.len() as u64 {
+            return Ok(None);
+        }
+        let left = files_after(
+            self.alloc,
+            self.disks.start(),
+            &trace[..step as usize],
+            choice,
+        )?;
+        Ok(Some(left))
+    }
+
+    /// Counts a call, and finds the entry of the list that speaks of it.
+    pub(crate) fn begin(&mut self, call: Call) -> Option<Fail>
+        ensures entry { result ≡ next_entry call (world_of self.old) }
+        ensures call { world_of self.new ≡ with_call call (world_of self.old) }
+    {
+        let listed = entry(self.fails.as_slice(), call, self.calls.of(call));
+        self.calls.raise(call);
+        listed
+    }
+
+    /// Counts a fault of input.
+    pub(crate) fn raise_input(&mut self)
+        ensures { world_of self.new ≡ faulted Input (world_of self.old) }
+    {
+        self.input_faults = self.input_faults.saturating_add(1);
+    }
+
+    /// Counts a fault of output.
+    pub(crate) fn raise_output(&mut self)
+        ensures { world_of self.new ≡ faulted Output (world_of self.old) }
+    {
+        self.output_faults = self.output_faults.saturating_add(1);
+    }
+
+    /// Counts a fault of a device's disk.
+    pub(crate) fn raise_disk(&mut self, device: u8)
+        ensures { world_of self.new ≡ faulted (Disk device) (world_of self.old) }
+    {
+        let place = device as usize;
+        let count = self.disk_faults.as_slice()[place].saturating_add(1);
+        self.disk_faults.set(place, count);
+    }
+
+    /// Counts a call that found no memory.
+    pub(crate) fn run_short(&mut self)
+        ensures { world_of self.new ≡ short (world_of self.old) }
+    {
+        self.shorts = self.shorts.saturating_add(1);
+    }
+
+    /// Counts a call on a device's disk that found no memory, and its fault.
+    pub(crate) fn refuse(&mut self, device: u8) -> Failed
+        ensures { world_of self.new ≡ short (faulted (Disk device) (world_of self.old)) }
+    {
+        self.raise_disk(device);
+        self.run_short();
+        Failed
+    }
+
+    /// Adds the step of a failed call that takes or says, or counts it as short of memory.
+    pub(crate) fn note_output(&mut self, call: Call)
+        requires { IsOutput call }
+        ensures { (world_of self.new ≡ stepped (output_failure call) (world_of self.old)) ⊎ (world_of self.new ≡ short (world_of self.old)) }
+    {
+        match self.disks.fail_output(call) {
+            Ok(()) => (),
+            Err(_) => self.run_short(),
         }
     }
 
-    /// Adds the step that says these bytes. The one refusal is want of memory, and leaves the
-    /// world as it was.
-    fn add_say(&mut self, bytes: &[u8]) -> Result<(), AllocError>
-        ensures ok { OnOk result (self.new ≡ record self.old { trace = self.old.trace ++ Step.Say (plain bytes.now) ∷ [] }) }
-        ensures err { OnErr result (self.new ≡ self.old) }
+    /// Adds the step of a failed call on a file that did nothing, or counts it as short of memory.
+    pub(crate) fn note_file(&mut self, call: Call, device: u8, file: u8, at: u64)
+        requires { file < 2 }
+        ensures { (world_of self.new ≡ stepped (file_failure call device file at (world_of self.old)) (world_of self.old)) ⊎ (world_of self.new ≡ short (world_of self.old)) }
     {
-        let bytes = Bytes::from_slice(self.alloc, bytes)?;
-        self.trace.push(Step::Say { bytes })
-    }
-}
-
-impl Outside for MemoryWorld {
-    ghost seen = { seen_of };
-
-    /// Gives as many bytes as are left and fit. It fails where the list says so.
-    fn take(&mut self, buf: &mut [u8]) -> Result<usize, Failed>
-        ensures count { IfOk result (λ n. n ≤ length buf.old) }
-        ensures given { IfOk result (λ n. Moves (seen_of self.old) (seen_of self.new) (take n buf.new) [] none) }
-        ensures end { IfOk result (λ n. n ≡ 0 → 0 < length buf.old → IsAtEnd (seen_of self.new)) }
-        ensures failed { OnErr result (Fails (seen_of self.old) (seen_of self.new) Call.Take input_fault) }
-        ensures most { IfOk result (λ n. n ≡ min (length buf.old) (length self.old.left)) }
-        ensures after { IfOk result (λ n. self.new ≡ taken n self.old) }
-        ensures unlisted { OnOk result (IsNone (entry Call.Take (self.old.takes + 1) self.old.fails)) }
-        ensures listed { OnErr result (IsSome (entry Call.Take (self.old.takes + 1) self.old.fails)) }
-        ensures cause { OnErr result (FailsFor Call.Take (self.old.takes + 1) (failed_take self.old) self.new) }
-    {
-        let listed = entry(self.fails.as_slice(), Call::Take, self.takes);
-        self.takes = self.takes.saturating_add(1);
-        if listed.is_some() {
-            self.input_faults = self.input_faults.saturating_add(1);
-            self.note_fail(Call::Take);
-            return Err(Failed);
+        match self.disks.fail(call, device, file, at) {
+            Ok(()) => (),
+            Err(_) => self.run_short(),
         }
+    }
+
+    /// Makes the first `done` bytes of a write with the step of one that failed, or counts it as
+    /// short of memory.
+    pub(crate) fn note_write(&mut self, device: u8, file: u8, at: u64, bytes: &[u8], done: u32)
+        requires file { file < 2 }
+        requires fits { at + length bytes.now < 2 ^ 64 }
+        ensures { (world_of self.new ≡ stepped (Step.Fail Call.Write device file at (plain bytes.now) (plain (written (reads_of (world_of self.old) device file) at (take done bytes.now)))) (world_of self.old)) ⊎ (world_of self.new ≡ short (world_of self.old)) }
+    {
+        let done = bytes.len().min(done as usize);
+        match self.disks.fail_write(device, file, at, bytes, done) {
+            Ok(()) => (),
+            Err(_) => self.run_short(),
+        }
+    }
+
+    /// What reads of a file give.
+    pub(crate) fn bytes(&self, device: u8, file: u8) -> &[u8]
+        requires { file < 2 }
+        ensures { result.now ≡ reads_of (world_of self.now) device file }
+    {
+        self.disks.bytes(device, file)
+    }
+
+    /// Gives as many bytes of the input as are left and fit.
+    pub(crate) fn give(&mut self, buf: &mut [u8]) -> usize
+        ensures most { result ≡ min (length buf.old) (length (world_of self.old).left) }
+        ensures given { (world_of self.old).left ≡ take result buf.new ++ (world_of self.new).left }
+        ensures after { world_of self.new ≡ given result (world_of self.old) }
+    {
         let left = self.input.len() - self.at;
         let n = buf.len().min(left);
         buf[..n].copy_from_slice(&self.input[self.at..self.at + n]);
         self.at += n;
-        Ok(n)
+        n
     }
 
-    /// Says the whole piece. It fails where the list says so, and where there is no memory for
-    /// its step.
-    fn say(&mut self, bytes: &[u8]) -> Result<usize, Failed>
-        ensures count { IfOk result (λ n. n ≤ length bytes.now) }
-        ensures some { 0 < length bytes.now → IfOk result (λ n. 0 < n) }
-        ensures said { IfOk result (λ n. Moves (seen_of self.old) (seen_of self.new) [] (Step.Say (plain (take n bytes.now)) ∷ []) none) }
-        ensures failed { OnErr result (Fails (seen_of self.old) (seen_of self.new) Call.Say output_fault) }
+    /// Says the whole piece, or counts its fault and that it found no memory.
+    pub(crate) fn speak(&mut self, bytes: &[u8]) -> Result<usize, Failed>
         ensures whole { IfOk result (λ n. n ≡ length bytes.now) }
-        ensures after { OnOk result (self.new ≡ spoken bytes.now self.old) }
-        ensures unlisted { OnOk result (IsNone (entry Call.Say (self.old.says + 1) self.old.fails)) }
-        ensures cause { OnErr result (FailsFor Call.Say (self.old.says + 1) (failed_say self.old) self.new) }
+        ensures ok { OnOk result (world_of self.new ≡ stepped (Step.Say (plain bytes.now)) (world_of self.old)) }
+        ensures err { OnErr result (world_of self.new ≡ short (faulted Output (world_of self.old))) }
     {
-        let listed = entry(self.fails.as_slice(), Call::Say, self.says);
-        self.says = self.says.saturating_add(1);
-        if listed.is_some() {
-            self.output_faults = self.output_faults.saturating_add(1);
-            self.note_fail(Call::Say);
-            return Err(Failed);
-        }
-        if self.add_say(bytes).is_err() {
-            self.output_faults = self.output_faults.saturating_add(1);
-            self.shorts = self.shorts.saturating_add(1);
-            return Err(Failed);
-        }
-        Ok(bytes.len())
-    }
-}
-
-#[cfg(test)]
-mod tests {
-    use super::*;
-    use re_outside::say_all;
-    use re_terms::TryCopy;
-    use std::test::Fail as TestFail;
-
-    fn fail(call: Call, nth: u64, done: u32) -> Fail {
-        Fail { call, nth, done }
-    }
-
-    fn no_files(alloc: Global) -> Files {
-        Files {
-            list: Seq::new(alloc),
-        }
-    }
-
-    #[test]
-    fn gives_its_input_and_keeps_what_is_said(rt: HostRuntime) -> Result<(), TestFail> {
-        let mut files = no_files(rt.alloc());
-        files
-            .list
-            .push(Bytes::from_slice(rt.alloc(), b"kept".as_slice())?)?;
-        let files = files.copy(rt.alloc())?;
-        let mut world = MemoryWorld::new(
-            rt.alloc(),
-            b"abc".as_slice(),
-            files,
-            Seq::new(rt.alloc()),
-        )?;
-        let mut buf = [0; 2];
-        assert_eq!(rt; world.take(&mut buf), Ok(2));
-        assert_eq!(rt; buf.as_slice(), b"ab".as_slice());
-        assert_eq!(rt; world.take(&mut buf), Ok(1));
-        assert_eq!(rt; buf.as_slice(), b"cb".as_slice());
-        assert_eq!(rt; world.take(&mut buf), Ok(0));
-        assert_eq!(rt; say_all(&mut world, b"said".as_slice()), Ok(()));
-        assert_eq!(rt; world.trace().len(), 1);
-        if let Some(Step::Say { bytes }) = world.trace().get(0) {
-            assert_eq!(rt; bytes.as_slice(), b"said".as_slice());
-        } else {
-            assert!(rt; false, "no say");
-        }
-        if let Some(bytes) = world.files().list.get(0) {
-            assert_eq!(rt; bytes.as_slice(), b"kept".as_slice());
-        } else {
-            assert!(rt; false, "no file");
-        }
-        assert_eq!(rt; world.shorts(), 0);
-        Ok(())
-    }
-
-    #[test]
-    fn fails_the_calls_of_its_list(rt: HostRuntime) -> Result<(), TestFail> {
-        let mut fails = Seq::new(rt.alloc());
-        fails.push(fail(Call::Say, 2, 0))?;
-        fails.push(fail(Call::Take, 1, 0))?;
-        fails.push(fail(Call::Say, 2, 9))?;
-        let fails = fails.copy(rt.alloc())?;
-        let mut world = MemoryWorld::new(
-            rt.alloc(),
-            b"abc".as_slice(),
-            no_files(rt.alloc()),
-            fails,
-        )?;
-        let mut buf = [0; 4];
-        assert_eq!(rt; world.take(&mut buf), Err(Failed));
-        assert_eq!(rt; world.take(&mut buf), Ok(3));
-        assert_eq!(rt; world.say(b"one".as_slice()), Ok(3));
-        assert_eq!(rt; world.say(b"two".as_slice()), Err(Failed));
-        assert_eq!(rt; world.say(b"two".as_slice()), Ok(3));
-        assert_eq!(rt; world.trace().len(), 4);
-        for (place, kind) in [(0, Call::Take), (2, Call::Say)] {
-            if let Some(Step::Fail { call, .. }) = world.trace().get(place) {
-                assert_eq!(rt; *call, kind);
-            } else {
-                assert!(rt; false, "no fail at {place}");
+        match self.disks.say(bytes) {
+            Ok(()) => Ok(bytes.len()),
+            Err(_) => {
+                self.raise_output();
+                self.run_short();
+                Err(Failed)
             }
         }
-        assert_eq!(rt; world.shorts(), 0);
-        Ok(())
+    }
+
+    /// Writes the bytes, or counts its fault and that it found no memory.
+    pub(crate) fn write_all(
+        &mut self,
+        device: u8,
+        file: u8,
+        at: u64,
+        bytes: &[u8],
+    ) -> Result<(), Failed>
+        requires file { file < 2 }
+        requires fits { at + length bytes.now < 2 ^ 64 }
+        ensures ok { OnOk result (world_of self.new ≡ stepped (Step.Write device file at (plain bytes.now)) (world_of self.old)) }
+        ensures err { OnErr result (world_of self.new ≡ short (faulted (Disk device) (world_of self.old))) }
+    {
+        match self.disks.write(device, file, at, bytes) {
+            Ok(()) => Ok(()),
+            Err(_) => Err(self.refuse(device)),
+        }
+    }
+
+    /// Cuts the file, or counts its fault and that it found no memory.
+    pub(crate) fn cut_all(&mut self, device: u8, file: u8, length: u64) -> Result<(), Failed>
+        requires { file < 2 }
+        ensures ok { OnOk result (world_of self.new ≡ stepped (Step.Cut device file length) (world_of self.old)) }
+        ensures err { OnErr result (world_of self.new ≡ short (faulted (Disk device) (world_of self.old))) }
+    {
+        match self.disks.cut(device, file, length) {
+            Ok(()) => Ok(()),
+            Err(_) => Err(self.refuse(device)),
+        }
+    }
+
+    /// Syncs the file, or counts its fault and that it found no memory.
+    pub(crate) fn sync_all(&mut self, device: u8, file: u8) -> Result<(), Failed>
+        requires { file < 2 }
+        ensures ok { OnOk result (world_of self.new ≡ stepped (Step.Sync device file) (world_of self.old)) }
+        ensures err { OnErr result (world_of self.new ≡ short (faulted (Disk device) (world_of self.old))) }
+    {
+        match self.disks.sync(device, file) {
+            Ok(()) => Ok(()),
+            Err(_) => Err(self.refuse(device)),
+        }
     }
 }

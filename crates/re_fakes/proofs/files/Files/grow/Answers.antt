@@ -1,0 +1,16 @@
+use Rattle.std.proofs.Common.{ap, List, ℕ, ◌++◌, ◌-◌, length, replicate}
+use Rattle.re_fakes.proofs.Places.{put_edited, put_back, reached_edited, same_trans}
+use Rattle.re_fakes.proofs.files.Files.grow.Goals as goal
+
+pub returns-in-Ok-clause-ok : goal.returns-in-Ok-clause-ok
+returns-in-Ok-clause-ok c =
+    let edit = λ (old : List ℕ). old ++ replicate (c.args.size - length old) c.args.byte in
+    reached_edited _ _ _ _ edit c.reach.ensures.same
+    (put_edited _ _ _ _ _ _ _ c.replace-edited.result c.grow_to.new.file edit c.place_of-place.ensures c.self.view_is c.replace-edited.ensures.item
+    (ap (λ l. l.items) c.replace-edited.ensures.rest) (ap (λ l. l.items) c.set.ensures) c.in-Ok.ensures.ok)
+
+pub returns-in-Err-clause-err : goal.returns-in-Err-clause-err
+returns-in-Err-clause-err c =
+    same_trans _ _ _ c.reach.ensures.same
+    (put_back _ _ _ _ _ _ c.replace-edited.result c.grow_to.new.file c.self.view_is c.replace-edited.ensures.item
+    (ap (λ l. l.items) c.replace-edited.ensures.rest) (ap (λ l. l.items) c.set-in-Err.ensures) c.in-Err.ensures.err)
