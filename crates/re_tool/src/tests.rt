@@ -1,6 +1,4 @@
 //! Whole runs over a world in memory.
-ghost use Rattle.std.specs.Prelude.{◌≤◌, length};
-
 use crate::{Job, Status, session, tool};
 use re_fakes::{Fail, Files, MemoryWorld};
 use re_outside::{Call, Failed, Gate, Outside, Step};
@@ -20,11 +18,22 @@ impl Gate for OpenGate {
     fn after(&self, _pass: u32, _turn: u32) {}
 }
 
-/// The status of a run, and all that was said.
+/// The status of a run, all that was said, and how many calls failed.
 #[derive(Drop)]
 struct Ran {
     status: Status,
     said: Vec<u8>,
+    failed: usize,
+}
+
+/// How many steps are those of calls that failed.
+fn failed_calls(world: &MemoryWorld) -> usize {
+    world
+        .trace()
+        .as_slice()
+        .iter()
+        .filter(|step| matches!(step, Step::Fail { .. }))
+        .count()
 }
 
 fn said(alloc: Global, world: &MemoryWorld) -> Result<Vec<u8>, AllocError> {
@@ -35,6 +44,12 @@ fn said(alloc: Global, world: &MemoryWorld) -> Result<Vec<u8>, AllocError> {
         }
     }
     Ok(all)
+}
+
+fn no_files(alloc: Global) -> Files {
+    Files {
+        list: Seq::new(alloc),
+    }
 }
 
 /// A run by the top call over this input, with these calls failing.
@@ -53,13 +68,15 @@ fn run_with(
     for fail in fails {
         failing.push(*fail)?;
     }
-    let files = Files {
-        list: Seq::new(alloc),
-    };
-    let mut world = MemoryWorld::new(alloc, input, files, failing)?;
+    let mut world = MemoryWorld::new(alloc, input, no_files(alloc), failing)?;
     let status = tool(rt, alloc, &list, &mut world, &OpenGate);
     let said = said(alloc, &world)?;
-    Ok(Ran { status, said })
+    let failed = failed_calls(&world);
+    Ok(Ran {
+        status,
+        said,
+        failed,
+    })
 }
 
 fn run(rt: &(impl Threads + Wait + Sync), alloc: Global, input: &[u8]) -> Result<Ran, AllocError> {
@@ -166,6 +183,34 @@ fn a_failed_take_ends_the_run(rt: HostRuntime) -> Result<(), TestFail> {
             b"1\nrescala: input fault\n"
         )
     );
+    Ok(())
+}
+
+/// After the first failed `take` no further one is made, and none behind a separator that ends what is read.
+#[test]
+fn no_further_take_is_made(rt: HostRuntime) -> Result<(), TestFail> {
+    let all = [
+        failing(Call::Take, 1),
+        failing(Call::Take, 2),
+        failing(Call::Take, 3),
+    ];
+    let later = [failing(Call::Take, 2), failing(Call::Take, 3)];
+    let cases: [(&str, &[u8], &[Fail], usize); 5] = [
+        ("run", SUM, &all, 1),
+        ("check", SUM, &all, 1),
+        (
+            "run",
+            b"device a; var x: int = 1;\n---\nget a x\nget a x",
+            &later,
+            1,
+        ),
+        ("run", b"x\n---\nget a x\n", &later, 0),
+        ("check", SUM, &later, 0),
+    ];
+    for (word, input, fails, failed) in cases {
+        let ran = run_with(&rt, rt.alloc(), &[word], input, fails)?;
+        assert_eq!(rt; ran.failed, failed);
+    }
     Ok(())
 }
 
@@ -659,54 +704,74 @@ fn each_signal_is_evaluated_once(rt: HostRuntime) -> Result<(), TestFail> {
     Ok(())
 }
 
-/// An input whose lines come one by one, and an output that counts the answers before each.
+/// An outside whose input comes byte by byte, and which looks at how many answers stand before each.
 #[derive(Drop)]
-struct Typist {
-    rest: &'static [u8],
-    takes: u64,
+struct Typist<O> {
+    out: O,
+    lines: u64,
     answers: u64,
     is_late: bool,
 }
 
-impl Outside for Typist {
-    ghost use Rattle.std.specs.Prelude.{false, []};
+impl<O: Outside> Outside for Typist<O> {
+    ghost tells = { O.tells };
 
-    ghost seen = { λ t. record { told = false; left = []; start = λ d f. []; trace = []; input_faults = 0; output_faults = 0 } };
+    ghost seen = { λ t. O.seen t.out };
+
+    ghost tells_always = { λ t. O.tells_always t.out };
+
+    ghost reads_left = { λ t. O.reads_left t.out };
 
     fn take(&mut self, buf: &mut [u8]) -> Result<usize, Failed> {
         // The first two lines are the program part and its separator, and each later one is answered before the next.
-        if self.answers < self.takes.saturating_sub(2) {
+        if self.answers < self.lines.saturating_sub(2) {
             self.is_late = true;
         }
-        self.takes = self.takes.saturating_add(1);
-        Ok(copy_line(&mut self.rest, buf))
+        let room = buf.len().min(1);
+        let n = self.out.take(&mut buf[..room])?;
+        if n > 0 && buf[0] == b'\n' {
+            self.lines = self.lines.saturating_add(1);
+        }
+        Ok(n)
     }
 
     fn say(&mut self, bytes: &[u8]) -> Result<usize, Failed> {
         self.answers = self.answers.saturating_add(1);
-        Ok(bytes.len())
+        self.out.say(bytes)
     }
-}
 
-/// Moves the first bytes of the text, at most a line, into the buffer.
-fn copy_line(text: &mut &'static [u8], buf: &mut [u8]) -> usize
-    ensures { result ≤ length buf.old }
-{
-    let line = match text.iter().position(|byte| *byte == b'\n') {
-        Some(place) => place + 1,
-        None => text.len(),
-    };
-    let n = line.min(buf.len());
-    buf[..n].copy_from_slice(&text[..n]);
-    *text = &text[n..];
-    n
+    fn size(&mut self, device: u8, file: u8) -> Result<u64, Failed> {
+        self.out.size(device, file)
+    }
+
+    fn fetch(&mut self, device: u8, file: u8, at: u64, buf: &mut [u8]) -> Result<usize, Failed> {
+        self.out.fetch(device, file, at, buf)
+    }
+
+    fn write(&mut self, device: u8, file: u8, at: u64, bytes: &[u8]) -> Result<(), Failed> {
+        self.out.write(device, file, at, bytes)
+    }
+
+    fn cut(&mut self, device: u8, file: u8, length: u64) -> Result<(), Failed> {
+        self.out.cut(device, file, length)
+    }
+
+    fn sync(&mut self, device: u8, file: u8) -> Result<(), Failed> {
+        self.out.sync(device, file)
+    }
 }
 
 #[test]
 fn lines_are_answered_as_they_come(rt: HostRuntime) -> Result<(), TestFail> {
+    let input = b"device a; var x: int = 1;\n---\nget a x\nturn a x = 2\nget a x\nget a\n";
     let mut typist = Typist {
-        rest: b"device a; var x: int = 1;\n---\nget a x\nturn a x = 2\nget a x\nget a\n",
-        takes: 0,
+        out: MemoryWorld::new(
+            rt.alloc(),
+            input.as_slice(),
+            no_files(rt.alloc()),
+            Seq::new(rt.alloc()),
+        )?,
+        lines: 0,
         answers: 0,
         is_late: false,
     };
