@@ -3,7 +3,7 @@ ghost use Rattle.std.specs.Prelude.{◌≡◌, ◌≤◌, ◌<◌, ◌+◌, ◌-
 ghost use Rattle.re_outside.specs.Listed.{plain};
 ghost use Rattle.re_outside.specs.Image.{IsTorn, IsCutShort, IsUnchanged};
 ghost use Rattle.re_outside.specs.Outside.{Moves, Fails, FailsOn, IsAtEnd, Input, Output, Disk, content_in, none, input_fault, output_fault};
-ghost use Rattle.re_fakes.specs.World.{seen_of, next_entry, counted, taken, spoken, stepped, FailsFor, output_failure, file_failure, write_failure};
+ghost use Rattle.re_fakes.specs.World.{seen_of, next_entry, counted, taken, spoken, stepped, faulted, short, FailsFor, output_failure, file_failure, write_failure};
 ghost use Rattle.re_fakes.specs.Told.{world_of};
 
 use crate::MemoryWorld;
@@ -112,6 +112,7 @@ impl Outside for MemoryWorld {
         ensures failed { OnErr result (FailsOn (seen_of (world_of self.old)) (seen_of (world_of self.new)) Call.Write device file at bytes.now (λ old new. IsTorn (length old) at (length bytes.now) old new)) }
         ensures after { OnOk result (world_of self.new ≡ stepped (Step.Write device file at (plain bytes.now)) (counted Call.Write (world_of self.old))) }
         ensures unlisted { OnOk result (IsNone (next_entry Call.Write (world_of self.old))) }
+        ensures beyond { 2 ^ 64 ≤ at + length bytes.now → world_of self.new ≡ short (faulted (Disk device) (counted Call.Write (world_of self.old))) }
         ensures cause { OnErr result (FailsFor Call.Write (Disk device) (write_failure device file at bytes.now (world_of self.old)) (world_of self.old) (world_of self.new)) }
     {
         let listed = self.begin(Call::Write);

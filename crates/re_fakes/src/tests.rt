@@ -115,6 +115,16 @@ fn fails_the_calls_of_its_list(rt: HostRuntime) -> Result<(), TestFail> {
 }
 
 #[test]
+fn a_listed_write_past_the_end_leaves_the_file(rt: HostRuntime) -> Result<(), TestFail> {
+    let mut world = world(rt.alloc(), &[b"ab".as_slice()], &[fail(Call::Write, 1, 1)])?;
+    assert_eq!(rt; world.write(0, 0, u64::MAX, b"x".as_slice()), Err(Failed));
+    assert_eq!(rt; world.files().bytes(0, 0), b"ab".as_slice());
+    assert_eq!(rt; world.trace().len(), 0);
+    assert_eq!(rt; world.shorts(), 1);
+    Ok(())
+}
+
+#[test]
 fn a_failed_write_makes_its_first_bytes(rt: HostRuntime) -> Result<(), TestFail> {
     let rows = [
         (0, b"ab".as_slice()),

@@ -7,6 +7,9 @@ use std::io;
 use std::io::ErrorKind;
 use std::os::unix::fs::FileExt;
 
+/// The greatest place that the system takes. No file is longer.
+const GREATEST_PLACE: u64 = 9_223_372_036_854_775_807;
+
 /// A file that was opened, and stays open.
 #[derive(Drop)]
 struct Opened {
@@ -15,8 +18,10 @@ struct Opened {
     handle: File,
     /// How many bytes it has, where no call that failed left this open.
     length: Option<u64>,
-    /// It was made, and the folder doesn't hold its name for sure so far.
-    is_new: bool,
+    /// The folder was synced since it was opened, so that its name outlasts a stop.
+    is_named: bool,
+    /// A sync of it failed: what it was to keep may be lost, whatever a later one says.
+    is_lost: bool,
 }
 
 /// The files `re-D-F` of a folder, with device and file number, made where they are missing.
@@ -27,18 +32,6 @@ pub(crate) struct Folder {
     rt: HostRuntime,
     path: &'static str,
     opened: Vec<Opened>,
-}
-
-/// The file with this path, and whether it had to be made.
-fn open_or_make(rt: &HostRuntime, path: &str) -> io::Result<(File, bool)> {
-    match File::create_new(rt, path) {
-        Ok(handle) => Ok((handle, true)),
-        Err(e) if e.kind() == ErrorKind::AlreadyExists => {
-            let handle = OpenOptions::new().read(true).write(true).open(rt, path)?;
-            Ok((handle, false))
-        }
-        Err(e) => Err(e),
-    }
 }
 
 /// Fills the buffer with what the file holds from `at` on, as far as there is, and answers how much.
@@ -79,6 +72,16 @@ impl Opened {
         Ok(())
     }
 
+    fn sync(&mut self) -> io::Result<()> {
+        if self.is_lost {
+            return Err(io::Error::from(ErrorKind::Other));
+        }
+        self.is_lost = true;
+        self.handle.sync_all()?;
+        self.is_lost = false;
+        Ok(())
+    }
+
     fn cut(&mut self, length: u64) -> io::Result<()> {
         if length >= self.length()? {
             return Ok(());
@@ -106,7 +109,11 @@ impl Folder {
     {
         let alloc: Global = self.rt.alloc();
         let path = format!(in alloc; "{}/re-{device}-{file}", self.path)?;
-        let (handle, is_new) = open_or_make(&self.rt, path.as_str())?;
+        let handle = OpenOptions::new()
+            .read(true)
+            .write(true)
+            .create(true)
+            .open(&self.rt, path.as_str())?;
         if handle.try_lock().is_err() {
             return Err(io::Error::from(ErrorKind::WouldBlock));
         }
@@ -116,7 +123,8 @@ impl Folder {
             file,
             handle,
             length,
-            is_new,
+            is_named: false,
+            is_lost: false,
         })?;
         Ok(())
     }
@@ -151,6 +159,9 @@ impl Folder {
         ensures { IfOk result (λ n. n ≤ length buf.old) }
     {
         let place = self.place_of(device, file)?;
+        if at > GREATEST_PLACE {
+            return Ok(0);
+        }
         fill_from(&self.opened[place].handle, at, buf)
     }
 
@@ -169,13 +180,16 @@ impl Folder {
         self.opened[place].cut(length)
     }
 
-    /// Forces the bytes and the length of a file to the disk, and its name where it was made.
+    /// Forces the bytes and the length of a file to the disk, and its name at its first sync.
+    ///
+    /// Behind a sync that failed each later one is refused.
     pub(crate) fn sync(&mut self, device: u8, file: u8) -> io::Result<()> {
         let place = self.place_of(device, file)?;
-        if self.opened[place].is_new {
+        if !self.opened[place].is_named {
             File::open(&self.rt, self.path)?.sync_all()?;
-            self.opened[place].is_new = false;
         }
-        self.opened[place].handle.sync_all()
+        let opened = &mut self.opened[place];
+        opened.is_named = true;
+        opened.sync()
     }
 }

@@ -153,9 +153,10 @@ impl Outside for RealWorld {
         }
     }
 
-    /// Forces the file to the disk, and the folder before it where the file was made here.
+    /// Forces the file to the disk, and before its first sync the folder, which has its name.
     ///
-    /// The refusals are those of the system.
+    /// The refusals are those of the system. Behind one each later sync of the file is refused,
+    /// since the system may have dropped what it couldn't keep.
     fn sync(&mut self, device: u8, file: u8) -> Result<(), Failed> {
         match self.folder.sync(device, file) {
             Ok(()) => Ok(()),

@@ -30,9 +30,11 @@ fn files_are_kept_under_a_lock(rt: HostRuntime) -> Result<(), Fail> {
     let mut second = RealWorld::in_folder(&rt, FOLDER);
     assert_eq!(rt; change(&mut first), Ok(()));
     assert_eq!(rt; second.size(0, 0), Err(Failed));
+    assert_eq!(rt; second.write(0, 0, 0, b"zz"), Err(Failed));
     assert_eq!(rt; second.size(0, 1), Ok(0));
     drop(first);
     assert_eq!(rt; second.size(0, 0), Ok(4));
+    assert_eq!(rt; second.fetch(0, 0, u64::MAX, &mut [0]), Ok(0));
     assert_eq!(rt; held(&mut second), ([0, 0, b'a', b'b', 7, 7, 7, 7], Ok(4)));
     drop(second);
     fs::remove_dir_all(&rt, FOLDER)?;

@@ -223,6 +223,7 @@ module _ (a c e : Seen) (p : Program) (device : DeviceState) (line : List ℕ) (
         );
         unanswered = line ∷ [];
         whole = omega arith;
+        answered = λ h. absurd (cc);
         calm = c;
         ordered = subst (λ x. OrderedIn a c start_world x os (line ∷ [])) (sym with_this) (ordered_but_one a q.mid c c p (start_world p) q.lines line q.outcomes o q.ahead q.same q.acts q.noise (does-nil c));
         halted = c;
@@ -254,6 +255,7 @@ module _ (a c e : Seen) (p : Program) (device : DeviceState) (line : List ℕ) (
         tells = (ap (λ (x : List ℕ × Ending). x.0) answer ∙ append-nil _, ap (λ (x : List ℕ × Ending). status_at x.1) answer);
         unanswered = [];
         whole = refl;
+        answered = λ h. refl;
         calm = e;
         ordered = subst (λ x. OrderedIn a e start_world x os []) (sym is)
             (ordered_all a e e p (start_world p) lines os [] (length_push q.outcomes o ∙ ap (λ n. n + 1) q.same ∙ sym (length_push q.lines line))
@@ -361,6 +363,7 @@ module _ (j : Job) (a b c : Seen) (e : Ending) (n : Near j a b e) where
     tells = tells_all (status_at e) (answers j n.verdict start_world n.read n.outcomes) (n.text ++ last_line e) h (ap (λ (x : List ℕ × Ending). x.0) n.answer) (ap (λ (x : List ℕ × Ending). status_at x.1) n.answer);
     unanswered = n.unanswered;
     whole = n.unsaid;
+    answered = λ h. subst (λ s. Unanswered s n.unanswered) (ap status_at (n.at_input h)) n.unsaid;
     calm = n.calm;
     ordered = n.ordered;
     halted = b;
@@ -386,6 +389,7 @@ module _ (j : Job) (a b c : Seen) (e : Ending) (n : Near j a b e) where
         tells = (d.rest, ap (λ (x : List ℕ × Ending). x.0) n.answer ∙ ap (λ t. n.text ++ t) d.whole ∙ sym (append_assoc n.text d.front d.rest));
         unanswered = n.unanswered;
         whole = at_most (status_at e) n.unanswered n.unsaid;
+        answered = λ h. subst (λ s. Unanswered s n.unanswered) (ap status_at (n.at_input h)) n.unsaid;
         calm = n.calm;
         ordered = n.ordered;
         halted = b;

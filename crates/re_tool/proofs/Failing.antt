@@ -4,8 +4,8 @@ use Rattle.std.proofs.lemmas.List.{append-nil, append_cancel_left}
 use Rattle.re_outside.specs.declared.step.Call.TheVariants as call
 use Rattle.re_outside.specs.declared.step.Step.{Step}
 use Rattle.re_outside.specs.declared.step.Step.TheVariants as step
-use Rattle.re_outside.specs.Outside.{Seen, FaultKind, Input, Output, AreOutputs, Does, Fails, Breaks, IsFailure, failures, said, none}
-use Rattle.re_outside.proofs.Does.{does-nil, does-trans, plus-none, said-append, failure-said}
+use Rattle.re_outside.specs.Outside.{Seen, AreSays, Does, Fails, Breaks, IsFailure, said, none}
+use Rattle.re_outside.proofs.Does.{does-nil, does-trans, plus-none, said-append, failure-said, says_alone}
 use Rattle.re_terms.specs.declared.program.Program.{Program}
 use Rattle.re_terms.specs.Worlds.{World, Outcome, start_world}
 use Rattle.re_commands.specs.Commanding.{commanded}
@@ -20,32 +20,8 @@ use Rattle.re_tool.specs.Session.{Runs, Halts, Closes, OnlyLastLine, Finishes, R
 
 -- ---- lists of steps
 
--- each step says something
-abbrev AreSays : List Step → Type 0
-AreSays [] = Unit {0}
-AreSays (step.Say bytes ∷ steps) = AreSays steps
-AreSays (step.Write device file at bytes ∷ steps) = ⊥
-AreSays (step.Cut device file length ∷ steps) = ⊥
-AreSays (step.Sync device file ∷ steps) = ⊥
-AreSays (step.Fail kind device file at bytes content ∷ steps) = ⊥
-
--- steps without a fault say something
-says_alone : (steps : List Step) → AreOutputs steps → ((k : FaultKind) → failures steps k ≤ 0) → AreSays steps
-says_alone [] o f = tt
-says_alone (step.Say bytes ∷ steps) o f = says_alone steps o f
-says_alone (step.Write device file at bytes ∷ steps) o f = absurd o
-says_alone (step.Cut device file length ∷ steps) o f = absurd o
-says_alone (step.Sync device file ∷ steps) o f = absurd o
-says_alone (step.Fail call.Take device file at bytes content ∷ steps) o f = let h : 1 + failures steps Input ≤ 0 = f Input in absurd (omega arith)
-says_alone (step.Fail call.Say device file at bytes content ∷ steps) o f = let h : 1 + failures steps Output ≤ 0 = f Output in absurd (omega arith)
-says_alone (step.Fail call.Size device file at bytes content ∷ steps) o f = absurd o.0
-says_alone (step.Fail call.Fetch device file at bytes content ∷ steps) o f = absurd o.0
-says_alone (step.Fail call.Write device file at bytes content ∷ steps) o f = absurd o.0
-says_alone (step.Fail call.Cut device file at bytes content ∷ steps) o f = absurd o.0
-says_alone (step.Fail call.Sync device file at bytes content ∷ steps) o f = absurd o.0
-
 says_of : (a b : Seen) (read text : List ℕ) (d : Does a b read text none) → AreSays d.steps
-says_of a b read text d = says_alone d.steps d.holds (λ k. d.moves.counted k)
+says_of a b read text d = says_alone d.steps none d.holds d.moves.counted (λ k. refl)
 
 -- a step of a failed call isn't among steps that say something
 pub record Behind (rest before : List Step) (f : Step) (behind : List Step) : Type 0 where

@@ -22,7 +22,7 @@ failed_say = step.Fail call.Say 0 0 0 (plain []) (plain [])
 abbrev pub SaysLastLine : List Step → Status → Type 0
 SaysLastLine steps s = ((s ≡ status.Input) × (said steps ≡ last_line InputFault)) ⊎ ((s ≡ status.Output) × ((rest : List ℕ) × (last_line InputFault ≡ said steps ++ rest)))
 
--- Where the outside tells the steps and keeps those of calls that failed: behind a failed `take` only the line of status 7 is said, and behind a failed `say` nothing is done.
+-- Where the outside tells the steps and keeps those of calls that failed: behind a failed `take` only the line of status 7 is said, and behind a failed `say` no step is made.
 pub record StopsAtFailures (old new : Seen) (s : Status) : Type 0 where
   pub take : old.told ≡ true → (before behind : List Step) → new.trace ≡ old.trace ++ (before ++ failed_take ∷ behind) → SaysLastLine behind s
   pub say : old.told ≡ true → (before behind : List Step) → new.trace ≡ old.trace ++ (before ++ failed_say ∷ behind) → (behind ≡ []) × (s ≡ status.Output)

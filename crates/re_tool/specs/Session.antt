@@ -105,6 +105,8 @@ pub record Runs (j : Job) (old new : Seen) (s : Status) : Type 0 where
   -- the answers stand whole and in order behind their commands' steps, all but perhaps the last
   pub unanswered : List (List ℕ)
   pub whole : Unanswered s unanswered
+  -- and all of them where a `take` failed
+  pub answered : outcomes.input_failed ≡ true → unanswered ≡ []
   pub calm : Seen
   pub ordered : OrderedIn old calm start_world (done j verdict read outcomes) outcomes.commands unanswered
   -- behind them a `take` may have failed, and then the rest of the text is said

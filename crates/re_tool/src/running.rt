@@ -7,7 +7,7 @@ ghost use Rattle.re_terms.specs.Worlds.{is_set_at};
 ghost use Rattle.re_tool.specs.Answers.{fault_code};
 ghost use Rattle.re_tool.specs.Causes.{EndCause, ProgramCause, InputCause, OutputCause, TooLongCause, Completes};
 ghost use Rattle.re_tool.specs.Device.{StepsTo, turn_fault_code};
-ghost use Rattle.re_tool.specs.Endings.{RefusedProgram, NoMemory, last_line, plain_ending};
+ghost use Rattle.re_tool.specs.Endings.{RefusedProgram, NoMemory, status_at, last_line, plain_ending};
 ghost use Rattle.re_tool.specs.Failures.{StopsAtFailures};
 ghost use Rattle.re_tool.specs.Clipped.{Clipped};
 ghost use Rattle.re_tool.specs.PartReading.{PartIs};
@@ -208,10 +208,10 @@ fn last_line(status: Status) -> &'static [u8]
     }
 }
 
-/// Says the last line of a status but that of a refused program.
+/// Says the last line of a status that has one with nothing to fill in, or none to say.
 pub fn finish<O: Outside>(out: &mut O, status: Status) -> Status
     requires said { status ≢ Status.Output }
-    requires accepted { status ≢ Status.Program }
+    requires told { status_at (plain_ending status) ≡ status }
     ensures { Finishes (O.seen out.old) (O.seen out.new) (last_line (plain_ending status)) status result }
 {
     if say_all(out, last_line(status)).is_err() {
