@@ -1,0 +1,4 @@
+pub mod Items
+pub mod Boards
+pub mod Rule
+pub mod Names
