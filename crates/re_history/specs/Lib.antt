@@ -2,3 +2,4 @@ pub mod Items
 pub mod Boards
 pub mod Rule
 pub mod Names
+pub mod Sample

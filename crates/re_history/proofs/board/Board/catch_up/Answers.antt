@@ -1,4 +1,4 @@
-use Rattle.std.proofs.Common.{◌≡◌, [], subst, sym, ap, ◌∙◌, arith}
+use Rattle.std.proofs.Common.{◌≡◌, subst, sym, ap, ◌∙◌, arith}
 use mathlib.Core.List.{IsPrefix}
 use Rattle.re_history.specs.Items.{items_of, IsTold}
 use Rattle.re_history.specs.Rule.{pen_of, chair_of, caught_up}
