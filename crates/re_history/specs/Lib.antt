@@ -1,0 +1,5 @@
+pub mod Items
+pub mod Boards
+pub mod Rule
+pub mod Names
+pub mod Sample
