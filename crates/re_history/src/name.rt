@@ -13,7 +13,7 @@ pub trait Name {
     ghost use Rattle.re_outside.specs.declared.step.Step.{Step};
     ghost use Rattle.re_history.specs.Boards.{BoardName};
 
-    /// The board that its seats have seen.
+    /// The board of its history.
     ghost board: { BoardName };
 
     /// The device's place among the devices of the program, from 0.
@@ -27,7 +27,7 @@ pub trait Name {
     /// The device's entry number at the start.
     ghost number: { ℕ };
 
-    /// How many entries the device had taken at the start.
+    /// How many entries the device took since it was opened, at the start.
     ghost taken: { ℕ };
 
     /// How many calls of its disk had failed at the start.
@@ -39,7 +39,7 @@ pub trait Name {
     /// What no call of the disk changes.
     ghost rest: { Rest };
 
-    /// The steps of the disk up to the start.
+    /// The trace at the start, where the disk tells it.
     ghost trace: { List Step };
 }
 
