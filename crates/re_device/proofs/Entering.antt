@@ -16,7 +16,8 @@ use Rattle.re_terms.specs.Propagation.{Step, step_in, words_after, changes, sign
 use Rattle.re_terms.specs.Cells.{is_cell, cell_place}
 use Rattle.re_terms.specs.Worlds.{is_full}
 use Rattle.re_prop.specs.Caching.{put_at, put_all, cached_word, signal_words}
-use Rattle.re_prop.proofs.Putting.{put_changes, put_signals}
+use Rattle.re_terms.proofs.PutWords.{words_put}
+use Rattle.re_prop.proofs.Putting.{put_signals}
 use Rattle.re_device.specs.Device.{DeviceState, rep_after, after_turn}
 use Rattle.re_device.specs.Placing.{at_each}
 use Rattle.re_device.proofs.Placed.{length-at_each, put_at-places, changes-declared, changes-placed, signal_changes-declared}
@@ -47,7 +48,7 @@ put_words-is p s places puts count are is =
     ap (λ l. put_at (slice_index l) s.words puts) are
     ∙ ap (put_at (slice_index (at_each cell_place p.decls.items)) s.words) is
     ∙ put_at-places p s
-    ∙ put_changes p s count
+    ∙ words_put p s count
 
 -- the same of the words of signals
 pub put_signals-declared : (p : Program) (s : Step) (words : List Word) (puts : List Put) → words ≡ signal_words p s.words s.old_view → puts ≡ signal_changes p s → All (λ put. put.id < length words) puts

@@ -3,4 +3,3 @@ pub mod Placed
 pub mod Reading
 pub mod Samples
 pub mod SetPlaces
-pub mod Starting

@@ -13,6 +13,7 @@ use Rattle.re_terms.specs.declared.program.Decl.{Decl}
 use Rattle.re_terms.specs.declared.program.Program.{Program}
 use Rattle.re_terms.specs.Propagation.{Step, effect, differing, changes, signal_changes, is_cell_at, is_signal_at}
 use Rattle.re_terms.specs.Cells.{is_cell, cell_place}
+use Rattle.re_terms.specs.Changes.{with_changes}
 use Rattle.re_terms.specs.SignalWords.{signal_word}
 use Rattle.re_terms.specs.WordOrder.{same_word}
 use Rattle.re_graph.proofs.Ranges.{All-range}
@@ -26,12 +27,12 @@ at_each-at count decls id within = get_or-map-range_with_len (count decls) 0 (le
 pub length-at_each : (count : List Decl → ℕ → ℕ) (decls : List Decl) → length (at_each count decls) ≡ length decls
 length-at_each count decls = length-map-range_with_len (count decls) 0 (length decls)
 
--- places that agree on what is put give the same words
-pub put_at-same : (f g : ℕ → ℕ) (words : List Word) (puts : List Put) → All (λ put. f put.id ≡ g put.id) puts → put_at f words puts ≡ put_at g words puts
-put_at-same f g words [] same = refl
-put_at-same f g words (x ∷ puts) same =
-    ap (λ place. put_at f (slice_set words place x.word) puts) (All-head (λ put. f put.id ≡ g put.id) x puts same)
-    ∙ put_at-same f g (slice_set words (g x.id) x.word) puts (All-tail (λ put. f put.id ≡ g put.id) x puts same)
+-- what is put at the places of vars and folds are changes of their words
+put_at-changes : (decls : List Decl) (f : ℕ → ℕ) (words : List Word) (puts : List Put) → All (λ put. f put.id ≡ cell_place decls put.id) puts → put_at f words puts ≡ with_changes decls words puts
+put_at-changes decls f words [] same = refl
+put_at-changes decls f words (x ∷ puts) same =
+    ap (λ place. put_at f (slice_set words place x.word) puts) (All-head (λ put. f put.id ≡ cell_place decls put.id) x puts same)
+    ∙ put_at-changes decls f (slice_set words (cell_place decls x.id) x.word) puts (All-tail (λ put. f put.id ≡ cell_place decls put.id) x puts same)
 
 left_true : (a b : Bool) → (a && b) ≡ true → a ≡ true
 left_true true b is = refl
@@ -76,7 +77,7 @@ changes-placed p s =
     (λ id within cell. let below = cell_place-below p.decls.items id cell in let at = at_each-at cell_place p.decls.items id within in omega arith)
 
 -- the places that are kept are those of the cells
-pub put_at-places : (p : Program) (s : Step) → put_at (slice_index (at_each cell_place p.decls.items)) s.words (changes p s) ≡ put_at (cell_place p.decls.items) s.words (changes p s)
+pub put_at-places : (p : Program) (s : Step) → put_at (slice_index (at_each cell_place p.decls.items)) s.words (changes p s) ≡ with_changes p.decls.items s.words (changes p s)
 put_at-places p s =
-    put_at-same (slice_index (at_each cell_place p.decls.items)) (cell_place p.decls.items) s.words (changes p s)
+    put_at-changes p.decls.items (slice_index (at_each cell_place p.decls.items)) s.words (changes p s)
     (All-differing (λ id. slice_index (at_each cell_place p.decls.items) id ≡ cell_place p.decls.items id) (is_cell_at p.decls.items) p s (λ id within cell. at_each-at cell_place p.decls.items id within))

@@ -1,4 +1,4 @@
--- What an entry changes has places, and puts the state and the words of signals after it.
+-- What an entry changes has places.
 use Rattle.std.proofs.Common.{◌≡◌, ◌<◌, ℕ, Bool, true, false, cond, List, length, get_or, refl, sym, ap, subst, ◌∙◌, arith}
 use Rattle.std.specs.Prelude.{count_by, slice_get}
 use Rattle.std.specs.List.{All}
@@ -11,12 +11,11 @@ use Rattle.re_terms.specs.declared.entry.Put.{Put}
 use Rattle.re_terms.specs.declared.program.Decl.{Decl}
 use Rattle.re_terms.specs.declared.program.Program.{Program}
 use Rattle.re_terms.specs.Cells.{is_cell, cell_place}
-use Rattle.re_terms.specs.Propagation.{Step, changes, signal_changes, is_cell_at, is_signal_at, is_signal_body, words_after}
-use Rattle.re_prop.specs.Caching.{put_all, put_cells, signal_words}
+use Rattle.re_terms.specs.Propagation.{Step, changes, signal_changes, is_cell_at, is_signal_at, is_signal_body}
+use Rattle.re_prop.specs.Caching.{signal_words}
 use Rattle.re_prop.proofs.Before.{length-signal_words}
-use Rattle.re_prop.proofs.Cells.{length-words_after}
 use Rattle.re_prop.proofs.Consequences.{differing_wanted}
-use Rattle.re_prop.proofs.Putting.{at_some, put_changes, put_signals}
+use Rattle.re_prop.proofs.Putting.{at_some}
 
 -- what is found is declared
 found_within : (decls : List Decl) (test : Decl → Bool) (id : ℕ) → option_map_or test (slice_get decls id) false ≡ true → id < length decls
@@ -49,15 +48,3 @@ listed_signals-declared p s words puts are is =
     subst (λ (n : ℕ). All (λ put. put.id < n) puts) (sym (ap length are ∙ length-signal_words p s.words s.old_view))
     (subst (λ (l : List Put). All (λ put. put.id < length p.decls.items) l) (sym is)
     (All-weaker (λ put. is_signal_at p.decls.items put.id ≡ true) (λ put. put.id < length p.decls.items) (λ put h. found_within p.decls.items (λ d. is_signal_body d.body) put.id h) (signal_changes p s) (differing_wanted (is_signal_at p.decls.items) p s)))
-
--- the words after it
-pub entered_words : (p : Program) (s : Step) (now : List Word) (puts : List Put) → length s.words ≡ count_by is_cell p.decls.items → puts ≡ changes p s → now ≡ put_cells p.decls.items s.words puts → now ≡ words_after p s
-entered_words p s now puts count is put = put ∙ ap (put_cells p.decls.items s.words) is ∙ put_changes p s count
-
-pub entered_count : (p : Program) (s : Step) (now : List Word) → now ≡ words_after p s → length now ≡ count_by is_cell p.decls.items
-entered_count p s now is = ap length is ∙ length-words_after p s
-
--- the words of signals after it
-pub entered_signals : (p : Program) (s : Step) (words now kept : List Word) (puts : List Put) → words ≡ signal_words p s.words s.old_view → puts ≡ signal_changes p s → kept ≡ put_all words puts → now ≡ words_after p s → kept ≡ signal_words p now s.new_view
-entered_signals p s words now kept puts are is put after =
-    put ∙ ap (λ l. put_all l puts) are ∙ ap (put_all (signal_words p s.words s.old_view)) is ∙ put_signals p s ∙ ap (λ l. signal_words p l s.new_view) (sym after)

@@ -1,24 +1,22 @@
 -- What is put gives the words after an entry.
 use Rattle.std.proofs.Common.{◌≡◌, ◌<◌, ◌≤◌, ◌+◌, ℕ, zero, suc, Bool, true, false, ◌&&◌, List, [], ◌∷◌, ◌++◌, map, length, drop, refl, sym, ap, ◌∙◌, arith}
-use Rattle.std.specs.Prelude.{if◌then◌else◌, Option, None, Some, not, filter, count_by, slice_get, slice_index_or, slice_set}
+use Rattle.std.specs.Prelude.{if◌then◌else◌, Option, None, Some, not, filter, slice_get, slice_index_or, slice_set}
 use Rattle.std.specs.Option.{option_map_or}
 use Rattle.std.specs.List.{range_with_len}
 use Rattle.std.proofs.Math.Seq.{drop-cons, set-append_seam}
-use Rattle.std.proofs.lemmas.List.{append_assoc, append-nil, drop_all, length-map, length-set, length_push, map-append, take_all}
+use Rattle.std.proofs.lemmas.List.{append_assoc, append-nil, drop_all, length-map, length-set, length_push, map-append}
 use Rattle.std.proofs.lemmas.List.FromFn.{get_or-map-range_with_len, length-range_with_len, length-map-range_with_len}
 use Rattle.re_terms.specs.declared.word.Word.{Word}
 use Rattle.re_terms.specs.declared.entry.Put.{Put}
 use Rattle.re_terms.specs.declared.program.Decl.{Decl}
 use Rattle.re_terms.specs.declared.program.Program.{Program}
-use Rattle.re_terms.specs.Cells.{is_cell, cell_place}
-use Rattle.re_terms.specs.Propagation.{Step, changes, effect, is_cell_at, is_signal_at, signal_changes, words_after}
+use Rattle.re_terms.specs.Propagation.{Step, effect, is_signal_at, signal_changes, words_after}
 use Rattle.re_terms.specs.SignalWords.{no_word, signal_word}
 use Rattle.re_terms.specs.WordOrder.{same_word}
 use Rattle.re_terms.proofs.WordOrders.{same_word-is}
 use Rattle.re_graph.proofs.Ranges.{filter_range-takes, filter_range-skips}
-use Rattle.re_prop.specs.Caching.{cached_word, put_all, put_at, put_cells, signal_words}
-use Rattle.re_prop.proofs.Before.{kept_word}
-use Rattle.re_prop.proofs.Cells.{cell_ids-count, never}
+use Rattle.re_prop.specs.Caching.{cached_word, put_all, put_at, signal_words}
+use Rattle.re_prop.proofs.Cells.{never}
 use Rattle.re_prop.proofs.Outcomes.{effect_word}
 
 -- there are as many words after it
@@ -115,23 +113,6 @@ not_false false b wanted h = never wanted
 pub at_some : (decls : List Decl) (id : ℕ) (test : Decl → Bool) (found : Option Decl) → slice_get decls id ≡ found → option_map_or test found false ≡ true → (d : Decl) × ((slice_get decls id ≡ Some d) × (test d ≡ true))
 at_some decls id test None is h = never h
 at_some decls id test (Some d) is h = (d, (is, h))
-
--- a var or a fold has the word that is kept for it
-pub kept_at : (p : Program) (cells : List Word) (view : _) (id : ℕ) → is_cell_at p.decls.items id ≡ true → signal_word p cells view id ≡ slice_index_or cells (cell_place p.decls.items id) no_word
-kept_at p cells view id cell =
-    let found = at_some p.decls.items id is_cell (slice_get p.decls.items id) refl cell in
-    kept_word p cells view id found.0 found.1.0 found.1.1
-
--- the changes of an entry, put at their places into the words before it, give the words after it
-pub put_changes : (p : Program) (s : Step) → length s.words ≡ count_by is_cell p.decls.items → put_cells p.decls.items s.words (changes p s) ≡ words_after p s
-put_changes p s count =
-    let new : ℕ → Word = λ id. (effect p s id).word in
-    put_all_below (cell_place p.decls.items) s.words (is_cell_at p.decls.items) (λ id. is_cell_at p.decls.items id && not (same_word (signal_word p s.words s.old_view id) (effect p s id).word)) (λ id. (effect p s id).word) (λ id. (effect p s id).word) (length p.decls.items)
-    (λ id under differs. and_left _ _ differs)
-    (λ id under cell. sym (cell_ids-count p.decls.items id (omega arith)))
-    (λ id under differs. refl)
-    (λ id under cell same. sym (kept_at p s.words s.old_view id cell) ∙ same_word-is _ _ (not_false _ _ cell same))
-    (cell_ids-count p.decls.items (length p.decls.items) (omega arith) ∙ ap (count_by is_cell) (take_all (length p.decls.items) p.decls.items (omega arith)) ∙ sym count)
 
 keep_all : (xs : List ℕ) → filter (λ id. true) xs ≡ xs
 keep_all [] = refl

@@ -1,4 +1,4 @@
--- The programs of the tests are programs, and their start states fit them.
+-- The programs of the tests are programs.
 use Rattle.std.proofs.Common.{◌≡◌, ◌≢◌, ◌<◌, ◌≤◌, ◌+◌, ◌^◌, ◌⊎◌, inl, inr, ℕ, Bool, true, None, Some, List, [], ◌∷◌, length, map, get_or, take, refl, sym, ap, subst, ◌∙◌, arith}
 use Rattle.std.specs.Prelude.{count_by, slice_get, slice_index, AllPairs, Result, Ok, Err, IfOk}
 use Rattle.std.specs.List.{list_all, range_with_len, sum_by}
@@ -12,11 +12,9 @@ use Rattle.std.proofs.lemmas.Option.{slice_get_within}
 use Rattle.re_terms.specs.declared.expr.Expr.TheFolds.{fold-roll-Expr}
 use Rattle.re_terms.specs.declared.program.Decl.{Decl}
 use Rattle.re_terms.specs.declared.program.Program.{Program}
-use Rattle.re_terms.specs.declared.replicated.RKind.{RKind}
 use Rattle.re_terms.specs.Kinds.{keeps_kinds}
-use Rattle.re_terms.specs.Programs.{is_ranged, is_symbol}
-use Rattle.re_terms.specs.Shapes.{FitsShape, pair_count, replicated_kinds, shape_of, start_cell, start_replicated, zeros}
-use Rattle.re_prop.specs.Sample.{IsSample, program_of, lettered, diamond, faulty, dividing, counting, clearing}
+use Rattle.re_terms.specs.Programs.{IsProgram, is_ranged, is_symbol}
+use Rattle.re_prop.specs.Sample.{program_of, lettered, diamond, faulty, dividing, counting, clearing}
 
 -- what a test finds of each declaration holds of each
 by_test : (decls : List Decl) (test : ℕ → Decl → Bool) → list_all (λ id. option_map_or (test id) (slice_get decls id) true) (range_with_len 0 (length decls)) ≡ true → (id : ℕ) (d : Decl) → slice_get decls id ≡ Some d → test id d ≡ true
@@ -36,130 +34,87 @@ letters first n i j d below within same =
     let f : first + i ≡ first + j = cc in
     omega (arith, below, f)
 
-pub diamond-sample : IsSample (program_of diamond)
+pub diamond-sample : IsProgram (program_of diamond)
 diamond-sample =
     let decls : List Decl = lettered 97 diamond in
     record {
-      program = record {
-        plain = refl;
-        few = omega arith;
-        cells = omega arith;
-        replicated = omega arith;
-        device = omega arith;
-        devices = omega arith;
-        names = refl;
-        distinct = letters 97 9;
-        kinds = by_test decls (λ id d. keeps_kinds (take id decls) d.body) (simp fold-roll-Expr);
-        ranges = by_test decls (λ id d. is_ranged (count_by is_symbol (take id decls)) d.body) (simp fold-roll-Expr);
-      };
-      words = refl;
-      cells = refl;
+      plain = refl;
+      few = omega arith;
+      cells = omega arith;
+      replicated = omega arith;
+      device = omega arith;
+      devices = omega arith;
+      names = refl;
+      distinct = letters 97 9;
+      kinds = by_test decls (λ id d. keeps_kinds (take id decls) d.body) (simp fold-roll-Expr);
+      ranges = by_test decls (λ id d. is_ranged (count_by is_symbol (take id decls)) d.body) (simp fold-roll-Expr);
     }
 
-pub faulty-sample : IsSample (program_of faulty)
+pub faulty-sample : IsProgram (program_of faulty)
 faulty-sample =
     let decls : List Decl = lettered 97 faulty in
     record {
-      program = record {
-        plain = refl;
-        few = omega arith;
-        cells = omega arith;
-        replicated = omega arith;
-        device = omega arith;
-        devices = omega arith;
-        names = refl;
-        distinct = letters 97 8;
-        kinds = by_test decls (λ id d. keeps_kinds (take id decls) d.body) (simp fold-roll-Expr);
-        ranges = by_test decls (λ id d. is_ranged (count_by is_symbol (take id decls)) d.body) (simp fold-roll-Expr);
-      };
-      words = refl;
-      cells = refl;
+      plain = refl;
+      few = omega arith;
+      cells = omega arith;
+      replicated = omega arith;
+      device = omega arith;
+      devices = omega arith;
+      names = refl;
+      distinct = letters 97 8;
+      kinds = by_test decls (λ id d. keeps_kinds (take id decls) d.body) (simp fold-roll-Expr);
+      ranges = by_test decls (λ id d. is_ranged (count_by is_symbol (take id decls)) d.body) (simp fold-roll-Expr);
     }
 
-pub dividing-sample : IsSample (program_of dividing)
+pub dividing-sample : IsProgram (program_of dividing)
 dividing-sample =
     let decls : List Decl = lettered 97 dividing in
     record {
-      program = record {
-        plain = refl;
-        few = omega arith;
-        cells = omega arith;
-        replicated = omega arith;
-        device = omega arith;
-        devices = omega arith;
-        names = refl;
-        distinct = letters 97 4;
-        kinds = by_test decls (λ id d. keeps_kinds (take id decls) d.body) (simp fold-roll-Expr);
-        ranges = by_test decls (λ id d. is_ranged (count_by is_symbol (take id decls)) d.body) (simp fold-roll-Expr);
-      };
-      words = refl;
-      cells = refl;
+      plain = refl;
+      few = omega arith;
+      cells = omega arith;
+      replicated = omega arith;
+      device = omega arith;
+      devices = omega arith;
+      names = refl;
+      distinct = letters 97 4;
+      kinds = by_test decls (λ id d. keeps_kinds (take id decls) d.body) (simp fold-roll-Expr);
+      ranges = by_test decls (λ id d. is_ranged (count_by is_symbol (take id decls)) d.body) (simp fold-roll-Expr);
     }
 
-pub counting-sample : IsSample (program_of counting)
+pub counting-sample : IsProgram (program_of counting)
 counting-sample =
     let decls : List Decl = lettered 97 counting in
     record {
-      program = record {
-        plain = refl;
-        few = omega arith;
-        cells = omega arith;
-        replicated = omega arith;
-        device = omega arith;
-        devices = omega arith;
-        names = refl;
-        distinct = letters 97 4;
-        kinds = by_test decls (λ id d. keeps_kinds (take id decls) d.body) (simp fold-roll-Expr);
-        ranges = by_test decls (λ id d. is_ranged (count_by is_symbol (take id decls)) d.body) (simp fold-roll-Expr);
-      };
-      words = refl;
-      cells = refl;
+      plain = refl;
+      few = omega arith;
+      cells = omega arith;
+      replicated = omega arith;
+      device = omega arith;
+      devices = omega arith;
+      names = refl;
+      distinct = letters 97 4;
+      kinds = by_test decls (λ id d. keeps_kinds (take id decls) d.body) (simp fold-roll-Expr);
+      ranges = by_test decls (λ id d. is_ranged (count_by is_symbol (take id decls)) d.body) (simp fold-roll-Expr);
     }
 
-pub clearing-sample : IsSample (program_of clearing)
+pub clearing-sample : IsProgram (program_of clearing)
 clearing-sample =
     let decls : List Decl = lettered 97 clearing in
     record {
-      program = record {
-        plain = refl;
-        few = omega arith;
-        cells = omega arith;
-        replicated = omega arith;
-        device = omega arith;
-        devices = omega arith;
-        names = refl;
-        distinct = letters 97 6;
-        kinds = by_test decls (λ id d. keeps_kinds (take id decls) d.body) (simp fold-roll-Expr);
-        ranges = by_test decls (λ id d. is_ranged (count_by is_symbol (take id decls)) d.body) (simp fold-roll-Expr);
-      };
-      words = refl;
-      cells = refl;
+      plain = refl;
+      few = omega arith;
+      cells = omega arith;
+      replicated = omega arith;
+      device = omega arith;
+      devices = omega arith;
+      names = refl;
+      distinct = letters 97 6;
+      kinds = by_test decls (λ id d. keeps_kinds (take id decls) d.body) (simp fold-roll-Expr);
+      ranges = by_test decls (λ id d. is_ranged (count_by is_symbol (take id decls)) d.body) (simp fold-roll-Expr);
     }
 
 -- a copy of a sample is one
-pub of_sample : {E : Type 0} (r : Result Program E) (p : Program) → IsSample p → IfOk r (λ found. found ≡ p) → IfOk r (λ found. IsSample found)
-of_sample (Ok found) p sample is = subst IsSample (sym is) sample
+pub of_sample : {E : Type 0} (r : Result Program E) (p : Program) → IsProgram p → IfOk r (λ found. found ≡ p) → IfOk r (λ found. IsProgram found)
+of_sample (Ok found) p sample is = subst IsProgram (sym is) sample
 of_sample (Err e) p sample is = is
-
-zero_by : (device : ℕ) → (device < 16) ⊎ (16 ≤ device) → slice_index zeros device ≡ 0
-zero_by device (inl below) = get_or-replicate 16 device 0 0 below
-zero_by device (inr past) = get_or_past zeros device 0 (let n : length zeros ≡ 16 = length-replicate {A = ℕ} 16 0 in omega arith)
-
--- a start state without replicated cells fits
-pub empty-fits : (p : Program) → IsSample p → FitsShape (shape_of p) (start_replicated (shape_of p))
-empty-fits p sample =
-    let none : map start_cell (replicated_kinds p.decls.items) ≡ [] = ap (map start_cell) sample.cells in
-    record {
-      counts = record {
-        places = length-replicate {A = ℕ} 16 0;
-        bounded = All-replicate (λ n. n < 2 ^ 48) 16 0 (omega arith);
-        none = λ device _. zero_by device (cases_lt device 16);
-      };
-      plain = refl;
-      count = ap length none ∙ sym (ap length sample.cells);
-      cells = λ place k c at there. absurd (gone place k (sym (ap (λ xs. slice_get xs place) sample.cells) ∙ at));
-      pairs = omega (arith, ap (sum_by pair_count) none);
-    }
-  where
-    gone : (place : ℕ) (k : RKind) → None ≡ Some k → ⊥
-    gone place k e = cc

@@ -1,14 +1,11 @@
 -- The words that are kept of signals, and lists of words into which words are put.
--- Read against: `var x: int = 2; signal s = x + 3; var y: int = 7;` has the words of signals 0, 5, 0 at the start; putting 8 for s gives 0, 8, 0,
--- and putting 5 for x and 6 for y, by their ids 0 and 2, into the words 2, 7 of vars and folds gives 5, 6.
+-- Read against: `var x: int = 2; signal s = x + 3; var y: int = 7;` has the words of signals 0, 5, 0 at the start; putting 8 for s gives 0, 8, 0.
 use Rattle.std.specs.Prelude.{ℕ, List, [], ◌∷◌, if◌then◌else◌, map, length, slice_set}
 use Rattle.std.specs.List.{range_with_len}
 use Rattle.re_terms.specs.declared.word.Word.{Word}
 use Rattle.re_terms.specs.declared.entry.Put.{Put}
-use Rattle.re_terms.specs.declared.program.Decl.{Decl}
 use Rattle.re_terms.specs.declared.program.Program.{Program}
 use Rattle.re_terms.specs.Propagation.{is_signal_at}
-use Rattle.re_terms.specs.Cells.{cell_place}
 use Rattle.re_terms.specs.SignalWords.{no_word, signal_word}
 use Rattle.re_terms.specs.Views.{View}
 
@@ -28,7 +25,3 @@ put_at place words (x ∷ puts) = put_at place (slice_set words (place x.id) x.w
 -- the same where each declaration has a word
 abbrev pub put_all : List Word → List Put → List Word
 put_all words puts = put_at (λ id. id) words puts
-
--- the same where each var and fold has a word
-abbrev pub put_cells : List Decl → List Word → List Put → List Word
-put_cells decls words puts = put_at (cell_place decls) words puts

@@ -4,7 +4,7 @@
 -- `dividing` is `device a; event b: int; fold c: int = 0 on b do self + 10 / arg; fold d: int = 0 on b do recover(self + 10 / arg, 100);`,
 -- `counting` is `device a; var b: int = 1; event c = changed(b); fold d: int = 0 on c do self + 1;`
 -- and `clearing` is `device a; event b: int; event c = filter(b, 10 / arg > 2); fold d: int = 0 on c do arg; fold e: int = 0 on b do if arg == 7 then recover(self, 50) else self + 10 / arg; signal f = d + e;`
-use Rattle.std.specs.Prelude.{ℕ, ◌≡◌, ◌+◌, pos, List, [], ◌∷◌, length, count_by}
+use Rattle.std.specs.Prelude.{ℕ, ◌+◌, pos, List, [], ◌∷◌}
 use Rattle.re_terms.specs.Listed.{plain}
 use Rattle.re_terms.specs.declared.word.Word.TheVariants as word
 use Rattle.re_terms.specs.declared.word.Kind.TheVariants as kind
@@ -16,9 +16,6 @@ use Rattle.re_terms.specs.declared.program.Body.{Body}
 use Rattle.re_terms.specs.declared.program.Body.TheVariants as body
 use Rattle.re_terms.specs.declared.program.Decl.{Decl}
 use Rattle.re_terms.specs.declared.program.Program.{Program}
-use Rattle.re_terms.specs.Cells.{is_cell}
-use Rattle.re_terms.specs.Programs.{IsProgram}
-use Rattle.re_terms.specs.Shapes.{replicated_kinds, start_words}
 
 -- a declaration whose name is one letter
 abbrev pub named : ℕ → Body → Decl
@@ -110,9 +107,3 @@ clearing =
     ∷ fold_on 1 recovering
     ∷ signal (binary op.Add (roll-Expr (Name 3)) (roll-Expr (Name 4)))
     ∷ []
-
--- a program without replicated cells, with a start word for each var and fold
-pub record IsSample (p : Program) : Type 0 where
-  pub program : IsProgram p
-  pub words : length (start_words p.decls.items) ≡ count_by is_cell p.decls.items
-  pub cells : replicated_kinds p.decls.items ≡ []

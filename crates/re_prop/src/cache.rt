@@ -1,9 +1,8 @@
 //! The words of signals.
-ghost use Rattle.std.specs.Prelude.{◌≡◌, ◌<◌, length, count_by, slice_index_or, IfOk};
+ghost use Rattle.std.specs.Prelude.{◌≡◌, ◌<◌, length, slice_index_or, IfOk};
 ghost use Rattle.std.specs.List.{All};
 ghost use Rattle.re_terms.specs.Programs.{IsProgram};
 ghost use Rattle.re_terms.specs.Shapes.{FitsShape, shape_of};
-ghost use Rattle.re_terms.specs.Cells.{is_cell};
 ghost use Rattle.re_terms.specs.SignalWords.{no_word};
 ghost use Rattle.re_terms.specs.Views.{view_of};
 ghost use Rattle.re_prop.specs.Caching.{put_all, signal_words};
@@ -34,7 +33,6 @@ impl Cache {
     /// The words of all signals in a state of the program. The one refusal is want of memory.
     pub fn fill(alloc: Global, p: &Program, s: &State) -> Result<Cache, AllocError>
         requires program { IsProgram p.now }
-        requires words { length s.now.words.items ≡ count_by is_cell p.now.decls.items }
         requires rep { FitsShape (shape_of p.now) s.now.rep }
         ensures { IfOk result (λ cache. cache ≡ signal_words p.now s.now.words.items (view_of s.now.rep)) }
     {

@@ -1,13 +1,14 @@
 //! Small programs over several turns, each in the state that the turn before it left.
-ghost use Rattle.std.specs.Prelude.{◌≡◌, ◌<◌, ◌≤◌, length, count_by, OnOk};
+ghost use Rattle.std.specs.Prelude.{◌≡◌, ◌<◌, ◌≤◌, length, OnOk};
 ghost use Rattle.std.specs.List.{All};
 ghost use Rattle.re_terms.specs.Admission.{IsEntryOf};
-ghost use Rattle.re_terms.specs.Cells.{is_cell, cell_place};
+ghost use Rattle.re_terms.specs.Cells.{cell_place};
+ghost use Rattle.re_terms.specs.Changes.{with_changes};
 ghost use Rattle.re_terms.specs.Dependencies.{graph_of};
 ghost use Rattle.re_terms.specs.Programs.{IsProgram};
-ghost use Rattle.re_terms.specs.Shapes.{FitsShape, shape_of};
 ghost use Rattle.re_terms.specs.Views.{view_of};
-ghost use Rattle.re_prop.specs.Caching.{put_cells, signal_words};
+ghost use Rattle.re_terms.specs.WordKinds.{IsStateOf};
+ghost use Rattle.re_prop.specs.Caching.{signal_words};
 
 use crate::bodies::cell_place;
 use crate::tests::{are, sample, started, turn_of};
@@ -25,7 +26,7 @@ use std::test::Fail;
 fn put_words(p: &Program, words: &mut Seq<Word>, puts: &[Put])
     requires declared { All (λ put. put.id < length p.now.decls.items) puts.now }
     requires placed { All (λ put. cell_place p.now.decls.items put.id < length words.old.items) puts.now }
-    ensures { words.new.items ≡ put_cells p.now.decls.items words.old.items puts.now }
+    ensures { words.new.items ≡ with_changes p.now.decls.items words.old.items puts.now }
 {
     for put in puts {
         words.set(cell_place(p.decls.as_slice(), put.id as usize), put.word);
@@ -44,12 +45,10 @@ fn enter<L: Ledger>(
 ) -> Result<Prepared, AllocError>
     requires program { IsProgram p.now }
     requires graph { g.now ≡ graph_of p.now.decls.items }
-    requires words { length s.old.words.items ≡ count_by is_cell p.now.decls.items }
-    requires rep { FitsShape (shape_of p.now) s.old.rep }
+    requires state { IsStateOf p.now s.old }
     requires cache { c.old ≡ signal_words p.now s.old.words.items (view_of s.old.rep) }
     requires admitted { IsEntryOf p.now entry.now }
-    ensures words { OnOk result (length s.new.words.items ≡ count_by is_cell p.now.decls.items) }
-    ensures rep { OnOk result (s.new.rep ≡ s.old.rep) }
+    ensures state { OnOk result (IsStateOf p.now s.new) }
     ensures cache { OnOk result (c.new ≡ signal_words p.now s.new.words.items (view_of s.new.rep)) }
 {
     let prepared = propagate(alloc, p, g, c, s, entry, &s.rep, steps)?;
@@ -81,11 +80,9 @@ fn does_as<L: Ledger>(
 ) -> Result<bool, AllocError>
     requires program { IsProgram p.now }
     requires graph { g.now ≡ graph_of p.now.decls.items }
-    requires words { length s.old.words.items ≡ count_by is_cell p.now.decls.items }
-    requires rep { FitsShape (shape_of p.now) s.old.rep }
+    requires state { IsStateOf p.now s.old }
     requires cache { c.old ≡ signal_words p.now s.old.words.items (view_of s.old.rep) }
-    ensures words { OnOk result (length s.new.words.items ≡ count_by is_cell p.now.decls.items) }
-    ensures rep { OnOk result (s.new.rep ≡ s.old.rep) }
+    ensures state { OnOk result (IsStateOf p.now s.new) }
     ensures cache { OnOk result (c.new ≡ signal_words p.now s.new.words.items (view_of s.new.rep)) }
 {
     let Some(entry) = turn_of(alloc, p, id, row.number)? else {
@@ -109,8 +106,7 @@ fn first_other_in<L: Ledger>(
 ) -> Result<Option<i64>, AllocError>
     requires program { IsProgram p.now }
     requires graph { g.now ≡ graph_of p.now.decls.items }
-    requires words { length s.old.words.items ≡ count_by is_cell p.now.decls.items }
-    requires rep { FitsShape (shape_of p.now) s.old.rep }
+    requires state { IsStateOf p.now s.old }
     requires cache { c.old ≡ signal_words p.now s.old.words.items (view_of s.old.rep) }
 {
     for row in rows {

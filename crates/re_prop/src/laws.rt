@@ -7,10 +7,11 @@ ghost use Rattle.re_terms.specs.declared.program.Program.{Program};
 ghost use Rattle.re_terms.specs.declared.word.Kind.{Kind};
 ghost use Rattle.re_terms.specs.declared.word.Word.{Word};
 ghost use Rattle.re_terms.specs.Cells.{is_cell, cell_place};
+ghost use Rattle.re_terms.specs.Changes.{with_changes};
 ghost use Rattle.re_terms.specs.Programs.{IsProgram};
 ghost use Rattle.re_terms.specs.Propagation.{Step, effect, put_word, words_after, changes, signal_changes, is_cell_at, is_signal_at};
 ghost use Rattle.re_terms.specs.SignalWords.{no_word, signal_word};
-ghost use Rattle.re_prop.specs.Caching.{put_all, put_cells, signal_words};
+ghost use Rattle.re_prop.specs.Caching.{put_all, signal_words};
 ghost use Rattle.re_prop.specs.Folds.{IsFoldAt};
 
 use re_terms::Body;
@@ -42,7 +43,7 @@ pub fn put_law()
     ensures words { (p : Program) (step : Step) (id : ℕ) → (effect p step id).word ≡ signal_word p (words_after p step) step.new_view id }
     ensures count { (p : Program) (step : Step) → length (words_after p step) ≡ count_by is_cell p.decls.items }
     ensures changes { (p : Program) (step : Step) → length step.words ≡ count_by is_cell p.decls.items →
-        put_cells p.decls.items step.words (changes p step) ≡ words_after p step }
+        with_changes p.decls.items step.words (changes p step) ≡ words_after p step }
     ensures signals { (p : Program) (step : Step) →
         put_all (signal_words p step.words step.old_view) (signal_changes p step) ≡ signal_words p (words_after p step) step.new_view }
 {}

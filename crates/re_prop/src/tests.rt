@@ -1,10 +1,10 @@
 //! Small programs: a diamond whose sum is counted, and folds and filters with faults; and what one turn does to them.
-ghost use Rattle.std.specs.Prelude.{◌≡◌, ◌<◌, ◌+◌, ◌++◌, ◌∷◌, ◌-◌, [], length, count_by, IfOk, IfSome, OnOk, IsTrue};
+ghost use Rattle.std.specs.Prelude.{◌≡◌, ◌<◌, ◌+◌, ◌++◌, ◌∷◌, ◌-◌, [], length, IfOk, IfSome, OnOk, IsTrue};
 ghost use Rattle.std.specs.List.{All};
 ghost use Rattle.re_terms.specs.Admission.{IsEntryOf};
-ghost use Rattle.re_terms.specs.Cells.{is_cell};
-ghost use Rattle.re_terms.specs.Shapes.{FitsShape, shape_of};
-ghost use Rattle.re_prop.specs.Sample.{IsSample, named, number, binary, recover, var, signal, quotient, quotient_sum, recovering, fold_on, program_of, diamond, faulty, dividing, counting, clearing};
+ghost use Rattle.re_terms.specs.Programs.{IsProgram};
+ghost use Rattle.re_terms.specs.WordKinds.{IsStateOf};
+ghost use Rattle.re_prop.specs.Sample.{named, number, binary, recover, var, signal, quotient, quotient_sum, recovering, fold_on, program_of, diamond, faulty, dividing, counting, clearing};
 
 use crate::{Cache, Prepared, propagate};
 use re_eval::Steps;
@@ -196,7 +196,7 @@ fn clearing(alloc: Global) -> Result<Program, AllocError>
 
 /// The programs by their places here.
 pub fn sample(alloc: Global, which: u8) -> Result<Program, AllocError>
-    ensures { IfOk result (λ p. IsSample p) }
+    ensures { IfOk result (λ p. IsProgram p) }
 {
     match which {
         0 => diamond(alloc),
@@ -243,9 +243,8 @@ pub fn turn_of(
 
 /// The state before any entry.
 pub fn started(alloc: Global, p: &Program) -> Result<State, AllocError>
-    requires { IsSample p.now }
-    ensures words { IfOk result (λ s. length s.words.items ≡ count_by is_cell p.now.decls.items) }
-    ensures rep { IfOk result (λ s. FitsShape (shape_of p.now) s.rep) }
+    requires { IsProgram p.now }
+    ensures { IfOk result (λ s. IsStateOf p.now s) }
 {
     let s = State::start(alloc, p)?;
     Ok(s)

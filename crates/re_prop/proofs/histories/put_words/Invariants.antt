@@ -1,10 +1,10 @@
 -- What is left to put gives what all gives.
 use Rattle.std.proofs.Common.{◌≡◌, length, drop}
-use Rattle.re_prop.specs.Caching.{put_cells}
+use Rattle.re_terms.specs.Changes.{with_changes}
 use Rattle.re_prop.proofs.histories.put_words.Given as goal
 
 abbrev pub invariant-loop-put : goal.invariant-loop-put
 invariant-loop-put l = record {
   count : length l.words.items ≡ length l.fn.words.items;
-  rest : put_cells l.p.decls.items l.words.items (drop l.put-index l.puts) ≡ put_cells l.p.decls.items l.fn.words.items l.puts;
+  rest : with_changes l.p.decls.items l.words.items (drop l.put-index l.puts) ≡ with_changes l.p.decls.items l.fn.words.items l.puts;
 }

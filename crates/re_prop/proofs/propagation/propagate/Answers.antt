@@ -1,12 +1,19 @@
-use Rattle.std.proofs.Common.{ap, map, refl, ◌∙◌}
+use Rattle.std.proofs.Common.{ap, map, refl, subst, sym, ◌∙◌}
 use Rattle.std.specs.Prelude.{Some}
 use Rattle.re_terms.specs.Cells.{is_cell}
+use Rattle.re_terms.specs.Changes.{with_changes}
 use Rattle.re_terms.specs.Listed.{plain}
-use Rattle.re_terms.specs.Propagation.{is_cell_at, is_signal_at, is_signal_body}
+use Rattle.re_terms.specs.Propagation.{Step, is_cell_at, is_signal_at, is_signal_body, signal_changes, step_in}
 use Rattle.re_terms.specs.Shapes.{shape_of}
 use Rattle.re_terms.specs.Views.{cell_size}
+use Rattle.re_terms.specs.WordKinds.{AreChangesOf}
+use Rattle.re_terms.proofs.ChangesKept.{changes_kept}
+use Rattle.re_terms.proofs.PutWords.{words_put}
+use Rattle.re_terms.proofs.StatesKept.{step_is}
+use Rattle.re_prop.specs.Caching.{put_all}
 use Rattle.re_prop.proofs.Choosing.{differs_at}
 use Rattle.re_prop.proofs.Fits.{sets_of_fit}
+use Rattle.re_prop.proofs.Putting.{put_signals}
 use Rattle.re_prop.proofs.Uses.{differing_is, marks_few}
 use Rattle.re_prop.proofs.propagation.propagate.Goals as goal
 
@@ -34,3 +41,25 @@ pub returns-clause-signals : goal.returns-clause-signals
 returns-clause-signals g c =
     c.in_ok-chosen-2.ensures
     ∙ ap plain (differing_is (λ d. is_signal_body d.body) c.args.p.now c.args.s.now c.args.entry.now c.args.after.now c.as_slice-decls.result.now c.deref-5.result.now c.deref-6.result.now c.in_ok-effects.effects.words.items c.deref-10.result.now c.in_ok-effects.effects.values.items c.in_ok-signals.signals.items c.deref-9.result.now c.as_slice-decls.ensures (c.deref-5.ensures.value ∙ c.in_ok-before.ensures) c.deref-6.ensures.value c.deref-10.ensures.value c.in_ok-effects.ensures.effects c.in_ok-signals.ensures c.deref-9.ensures.value)
+
+pub returns-clause-kinds : goal.returns-clause-kinds
+returns-clause-kinds g c =
+    let p = c.args.p.now in
+    let step : Step = step_in c.args.s.now c.args.entry.now c.args.after.now in
+    let kept = step_is p c.args.s.now c.args.entry.now c.args.after.now c.requires.program c.requires.state c.requires.admitted c.requires.after in
+    subst (AreChangesOf p) (sym (ap (λ l. l.items) (returns-clause-changes g c))) (changes_kept p c.requires.program step kept)
+
+pub returns-clause-words : goal.returns-clause-words
+returns-clause-words g c =
+    let p = c.args.p.now in
+    let step : Step = step_in c.args.s.now c.args.entry.now c.args.after.now in
+    ap (λ l. with_changes p.decls.items c.args.s.now.words.items l.items) (returns-clause-changes g c) ∙ words_put p step c.requires.state.words.count
+
+pub returns-clause-signal_words : goal.returns-clause-signal_words
+returns-clause-signal_words g c =
+    let p = c.args.p.now in
+    let s = c.args.s.now in
+    let step : Step = step_in s c.args.entry.now c.args.after.now in
+    ap (put_all c.args.c.now) (ap (λ l. l.items) (returns-clause-signals g c))
+    ∙ ap (λ l. put_all l (signal_changes p step)) c.requires.cache
+    ∙ put_signals p step

@@ -1,10 +1,7 @@
-use Rattle.std.proofs.Common.{length, sym, ap, subst, ◌∙◌}
-use Rattle.re_terms.specs.Shapes.{FitsShape, shape_of}
-use Rattle.re_prop.proofs.Samples.{empty-fits}
+use Rattle.std.proofs.Common.{sym, subst}
+use Rattle.re_terms.specs.WordKinds.{IsStateOf}
+use Rattle.re_terms.proofs.StatesKept.{start_is}
 use Rattle.re_prop.proofs.tests.started.Goals as goal
 
-pub returns-clause-words : goal.returns-clause-words
-returns-clause-words c = ap (λ s. length s.words.items) c.in_ok-s.ensures ∙ c.requires.words
-
-pub returns-clause-rep : goal.returns-clause-rep
-returns-clause-rep c = subst (λ s. FitsShape (shape_of c.args.p.now) s.rep) (sym c.in_ok-s.ensures) (empty-fits c.args.p.now c.requires)
+pub returns : goal.returns
+returns c = subst (IsStateOf c.args.p.now) (sym c.in_ok-s.ensures) (start_is c.args.p.now c.requires)

@@ -9,7 +9,7 @@ use Rattle.re_device.proofs.Reading.{replicated_at}
 use Rattle.re_device.proofs.device.Device.contains.Goals as goal
 
 pub has_at-requires : goal.has_at-requires
-has_at-requires c = sets_of_fit (shape_of c.self.inside.program) c.self.inside.state.rep c.as_slice.result.now c.as_slice.ensures c.self.invariant.rep
+has_at-requires c = sets_of_fit (shape_of c.self.inside.program) c.self.inside.state.rep c.as_slice.result.now c.as_slice.ensures c.self.invariant.state.rep
 
 pub returns : goal.returns
 returns c =

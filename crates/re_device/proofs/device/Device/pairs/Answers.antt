@@ -14,7 +14,7 @@ offset_bounds-cells-replicated c =
     let d = c.self.inside in
     let is = subst (λ (v : DeviceState). is_set_at v.program.decls.items c.args.id ≡ true) (sym c.self.view_is) c.requires in
     let place = replicated_at d.program.decls.items d.places c.args.id c.replicated.result c.self.invariant.places c.replicated.ensures in
-    let set = set_there d.program d.state.rep c.args.id c.self.invariant.rep is in
+    let set = set_there d.program d.state.rep c.args.id c.self.invariant.state.rep is in
     let inside = within d.state.rep.cells.items (replicated_place d.program.decls.items c.args.id) set in
     let count = ap length c.as_slice-cells.ensures in
     let size = c.as_slice-cells.type_inv.1 in
@@ -25,7 +25,7 @@ bounds-cells-replicated c =
     let d = c.self.inside in
     let is = subst (λ (v : DeviceState). is_set_at v.program.decls.items c.args.id ≡ true) (sym c.self.view_is) c.requires in
     let place = replicated_at d.program.decls.items d.places c.args.id c.replicated.result c.self.invariant.places c.replicated.ensures in
-    let set = set_there d.program d.state.rep c.args.id c.self.invariant.rep is in
+    let set = set_there d.program d.state.rep c.args.id c.self.invariant.state.rep is in
     let inside = within d.state.rep.cells.items (replicated_place d.program.decls.items c.args.id) set in
     let count = ap length c.as_slice-cells.ensures in
     omega (arith, place, inside, count)
@@ -35,7 +35,7 @@ unreachable-requires c =
     let d = c.self.inside in
     let is = subst (λ (v : DeviceState). is_set_at v.program.decls.items c.args.id ≡ true) (sym c.self.view_is) c.requires in
     let place = replicated_at d.program.decls.items d.places c.args.id c.replicated.result c.self.invariant.places c.replicated.ensures in
-    let set = set_there d.program d.state.rep c.args.id c.self.invariant.rep is in
+    let set = set_there d.program d.state.rep c.args.id c.self.invariant.state.rep is in
     c.in_default.not-Set set.pairs
     (c.index-cells-replicated.is
     ∙ ap (λ l. slice_index_or l c.replicated.result c.index-cells-replicated.result) c.as_slice-cells.ensures
@@ -47,7 +47,7 @@ returns-clause-shown c =
     let d = c.self.inside in
     let is = subst (λ (v : DeviceState). is_set_at v.program.decls.items c.args.id ≡ true) (sym c.self.view_is) c.requires in
     let place = replicated_at d.program.decls.items d.places c.args.id c.replicated.result c.self.invariant.places c.replicated.ensures in
-    let set = set_there d.program d.state.rep c.args.id c.self.invariant.rep is in
+    let set = set_there d.program d.state.rep c.args.id c.self.invariant.state.rep is in
     let inside = within d.state.rep.cells.items (replicated_place d.program.decls.items c.args.id) set in
     let count = ap length c.as_slice-cells.ensures in
     let here = read_at c.as_slice-cells.result.now c.replicated.result c.index-cells-replicated.result (omega (arith, place, inside, count)) c.index-cells-replicated.is in
@@ -60,7 +60,7 @@ returns-clause-ascend c =
     let d = c.self.inside in
     let is = subst (λ (v : DeviceState). is_set_at v.program.decls.items c.args.id ≡ true) (sym c.self.view_is) c.requires in
     let place = replicated_at d.program.decls.items d.places c.args.id c.replicated.result c.self.invariant.places c.replicated.ensures in
-    let set = set_there d.program d.state.rep c.args.id c.self.invariant.rep is in
+    let set = set_there d.program d.state.rep c.args.id c.self.invariant.state.rep is in
     let inside = within d.state.rep.cells.items (replicated_place d.program.decls.items c.args.id) set in
     let count = ap length c.as_slice-cells.ensures in
     let here = read_at c.as_slice-cells.result.now c.replicated.result c.index-cells-replicated.result (omega (arith, place, inside, count)) c.index-cells-replicated.is in

@@ -9,7 +9,7 @@ use Rattle.re_device.proofs.Reading.{replicated_at}
 use Rattle.re_device.proofs.device.Device.size_of.Goals as goal
 
 pub size_at-requires : goal.size_at-requires
-size_at-requires c = sets_of_fit (shape_of c.self.inside.program) c.self.inside.state.rep c.as_slice.result.now c.as_slice.ensures c.self.invariant.rep
+size_at-requires c = sets_of_fit (shape_of c.self.inside.program) c.self.inside.state.rep c.as_slice.result.now c.as_slice.ensures c.self.invariant.state.rep
 
 pub returns : goal.returns
 returns c =

@@ -7,12 +7,15 @@ use Rattle.re_terms.specs.declared.word.Word.{Word}
 use Rattle.re_terms.specs.declared.replicated.RState.{RState}
 use Rattle.re_terms.specs.declared.replicated.RepOp.{RepOp}
 use Rattle.re_terms.specs.declared.replicated.Shape.{Shape}
+use Rattle.re_terms.specs.Admission.{IsAdmitted}
 use Rattle.re_terms.specs.Limits.{after_operations}
 use Rattle.re_terms.specs.Shapes.{FitsShape, IsShape, shape_of}
 use Rattle.re_terms.specs.Views.{view_of}
+use Rattle.re_terms.specs.WordKinds.{AreWordsOf}
 use Rattle.re_terms.specs.Worlds.{is_full}
 use Rattle.re_terms.proofs.ProgramShapes.{program_shape}
-use Rattle.re_prop.proofs.Cells.{length-words_after}
+use Rattle.re_terms.proofs.ChangesKept.{after_kept}
+use Rattle.re_terms.proofs.StatesKept.{step_is}
 use Rattle.re_device.specs.Device.{DeviceState, rep_after, after_turn}
 use Rattle.re_prop.specs.Caching.{signal_words}
 use Rattle.re_terms.specs.Propagation.{Step, step_in, words_after, changes}
@@ -37,7 +40,7 @@ put_words-requires-clause-placed g c =
     let d = c.self.inside in
     let step : Step = step_in d.state (entry.Turn c.args.turn.turn) c.newest.result.now in
     let puts : c.as_slice-3.result.now ≡ changes d.program step = c.as_slice-3.ensures ∙ ap (λ l. l.items) c.in_ok-prepared.ensures.changes in
-    put_words-placed d.program step c.as_slice-2.result.now c.as_slice-3.result.now c.self.invariant.words (c.as_slice-2.ensures ∙ ap (λ x. x.words.items) c.self.invariant.places) puts
+    put_words-placed d.program step c.as_slice-2.result.now c.as_slice-3.result.now c.self.invariant.state.words.count (c.as_slice-2.ensures ∙ ap (λ x. x.words.items) c.self.invariant.places) puts
 
 pub put-requires : goal.put-requires
 put-requires g c =
@@ -51,10 +54,13 @@ invariant_of-self-3 g c =
     let step : Step = step_in d.state (entry.Turn c.args.turn.turn) c.newest.result.now in
     let places = c.as_slice-2.ensures ∙ ap (λ x. x.words.items) c.self.invariant.places in
     let puts : c.as_slice-3.result.now ≡ changes d.program step = c.as_slice-3.ensures ∙ ap (λ l. l.items) c.in_ok-prepared.ensures.changes in
-    let words : c.put_words.new.words.items ≡ words_after d.program step = ap (λ l. l.items) c.put_words.ensures ∙ put_words-is d.program step c.as_slice-2.result.now c.as_slice-3.result.now c.self.invariant.words places puts in
+    let words : c.put_words.new.words.items ≡ words_after d.program step = ap (λ l. l.items) c.put_words.ensures ∙ put_words-is d.program step c.as_slice-2.result.now c.as_slice-3.result.now c.self.invariant.state.words.count places puts in
     let signals = put_signals-is d.program step d.cache c.in_ok-prepared.prepared.signals.items c.self.invariant.cache (ap (λ l. l.items) c.in_ok-prepared.ensures.signals) in
     let rep : c.put_rep.new.rep ≡ c.newest.result.now = c.put_rep.ensures ∙ sym c.newest.ensures in
     let fits = subst (λ (s : Shape). FitsShape s (unwrap_or c.in_ok-after.after d.state.rep)) c.self.invariant.shape c.in_ok-after.ensures.fits in
+    let admitted = subst (λ (v : DeviceState). IsAdmitted v.program c.args.turn.turn) (sym c.self.view_is) c.requires in
+    let taken = subst (FitsShape (shape_of d.program)) (sym c.newest.ensures) fits in
+    let kept = step_is d.program d.state (entry.Turn c.args.turn.turn) c.newest.result.now c.self.invariant.is_program c.self.invariant.state admitted taken in
     let free : is_full (length d.entries.items) d.number ≡ false = ap (λ (v : DeviceState). is_full (length v.entries) v.number) c.self.view_is ∙ sym c.is_full.ensures ∙ c.if-is_full.false in
     let room = room_left (length d.entries.items) d.number free in
     let entries = one_more d.entries c.reserve.new.self c.push.new.self _ c.push.result c.in_ok-reserve.ensures.ok c.push.ensures.room c.push.ensures.ok in
@@ -64,9 +70,8 @@ invariant_of-self-3 g c =
       places = c.self.invariant.places;
       shape = c.self.invariant.shape;
       device = c.self.invariant.device;
-      words = ap length words ∙ length-words_after d.program step;
+      state = record { words = subst (AreWordsOf d.program) (sym words) (after_kept d.program c.self.invariant.is_program step kept); rep = subst (λ (r : RState). FitsShape (shape_of d.program) r) (sym c.put_rep.ensures) fits };
       plain = ap (λ l. l.spare) c.put_words.ensures ∙ c.self.invariant.plain;
-      rep = subst (λ (r : RState). FitsShape (shape_of d.program) r) (sym c.put_rep.ensures) fits;
       cache =
           c.put.ensures ∙ signals
           ∙ ap (λ w. signal_words d.program w (view_of c.newest.result.now)) (sym words)
@@ -89,7 +94,7 @@ returns-clause-state g c =
     ∙ ap (λ (ops : List RepOp). after_operations (shape_of d.program) d.device ops d.state.rep) c.as_slice.ensures in
     let places = c.as_slice-2.ensures ∙ ap (λ x. x.words.items) c.self.invariant.places in
     let puts : c.as_slice-3.result.now ≡ changes d.program step = c.as_slice-3.ensures ∙ ap (λ l. l.items) c.in_ok-prepared.ensures.changes in
-    let put = put_words-is d.program step c.as_slice-2.result.now c.as_slice-3.result.now c.self.invariant.words places puts in
+    let put = put_words-is d.program step c.as_slice-2.result.now c.as_slice-3.result.now c.self.invariant.state.words.count places puts in
     let words : c.put_words.new.words ≡ plain (words_after d.program step) = c.put_words.ensures ∙ listed put c.self.invariant.plain in
     let logged : Logged = record { entry = c.in_ok-prepared.prepared.entry; changes = c.in_ok-prepared.prepared.changes } in
     let pushed = one_more d.entries c.reserve.new.self c.push.new.self logged c.push.result c.in_ok-reserve.ensures.ok c.push.ensures.room c.push.ensures.ok in
