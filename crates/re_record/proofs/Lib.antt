@@ -1,0 +1,2 @@
+pub mod AgainPuts
+pub mod TakesPuts
