@@ -1,2 +1,9 @@
 pub mod AgainPuts
+pub mod AgainRecords
+pub mod PutLists
+pub mod RecordLaws
+pub mod Roles
+pub mod SeveralMore
 pub mod TakesPuts
+pub mod TakesRecords
+pub mod WordLists

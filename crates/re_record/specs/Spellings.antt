@@ -67,9 +67,17 @@ record_bytes devices entries = length entries ∷ flat_map (logged_bytes devices
 
 -- ---- snapshots
 
--- what stands before the text and with it: generation, format, device, entry number, and the text behind its length
+-- generation, format, device and entry number
+unfoldable pub owner_bytes : ℕ → ℕ → ℕ → List ℕ
+owner_bytes device generation number = to_be_bytes w64 generation ++ (1 ∷ device ∷ to_be_bytes w64 number)
+
+-- a text behind its length
+unfoldable pub text_bytes : List ℕ → List ℕ
+text_bytes text = to_be_bytes w32 (length text) ++ text
+
+-- what stands before the words
 unfoldable pub head_bytes : ℕ → ℕ → ℕ → List ℕ → List ℕ
-head_bytes device generation number text = to_be_bytes w64 generation ++ (1 ∷ device ∷ to_be_bytes w64 number ++ to_be_bytes w32 (length text) ++ text)
+head_bytes device generation number text = owner_bytes device generation number ++ text_bytes text
 
 -- the words of vars and folds in order of declaration, and the replicated state
 unfoldable pub kept_bytes : ℕ → State → List ℕ

@@ -8,7 +8,7 @@ ghost use Rattle.re_print.specs.Canonical.{program_text};
 ghost use Rattle.re_record.specs.Logs.{IsSnapshotOf};
 ghost use Rattle.re_record.specs.Slots.{kept_slots};
 ghost use Rattle.re_record.specs.Snapshots.{GivesSnapshot, HasOtherText, owner_at, text_at, head_at, words_at, kept_at, snapshot_at};
-ghost use Rattle.re_record.specs.Spellings.{head_bytes, snapshot_bytes};
+ghost use Rattle.re_record.specs.Spellings.{owner_bytes, text_bytes, snapshot_bytes};
 ghost use Rattle.re_record.specs.declared.fault.SnapshotFault.TheVariants.{OtherText};
 ghost use Rattle.re_terms.specs.Programs.{IsProgram};
 ghost use Rattle.re_terms.specs.Shapes.{IsShape, shape_of};
@@ -211,21 +211,26 @@ pub fn get_snapshot(
     get_stored(alloc, body, p, shape, device)
 }
 
-/// Writes what stands before the words. The one refusal is want of memory.
-#[tactic(auto, unfolding(crate::specs::Spellings::head_bytes))]
-fn write_head(
+/// Writes the generation, the format, the device and the entry number. The one refusal is want of memory.
+fn write_owner(
     out: &mut Bytes,
     device: u8,
     generation: u64,
     number: u64,
-    text: &[u8],
 ) -> Result<(), AllocError>
-    requires { length text.now < 2 ^ 32 }
-    ensures { OnOk result (out.new ≡ appended out.old (head_bytes device generation number text.now)) }
+    ensures { OnOk result (out.new ≡ appended out.old (owner_bytes device generation number)) }
 {
     write(out, &generation.to_be_bytes())?;
     write(out, &[1, device])?;
-    write(out, &number.to_be_bytes())?;
+    write(out, &number.to_be_bytes())
+}
+
+/// Writes a text behind its length. The one refusal is want of memory.
+#[tactic(auto, unfolding(crate::specs::Spellings::text_bytes))]
+fn write_text(out: &mut Bytes, text: &[u8]) -> Result<(), AllocError>
+    requires { length text.now < 2 ^ 32 }
+    ensures { OnOk result (out.new ≡ appended out.old (text_bytes text.now)) }
+{
     write(out, &(text.len() as u32).to_be_bytes())?;
     write(out, text)
 }
@@ -242,7 +247,7 @@ fn write_words(out: &mut Bytes, words: &[Word]) -> Result<(), AllocError>
 
 /// The snapshot of a device's state after `number` entries, with this generation. Nothing is reserved behind it. The one
 /// refusal is want of memory. `docs/FORMATS.md` has the layout.
-#[tactic(auto, unfolding(crate::specs::Spellings::snapshot_bytes, crate::specs::Spellings::kept_bytes))]
+#[tactic(auto, unfolding(crate::specs::Spellings::snapshot_bytes, crate::specs::Spellings::head_bytes, crate::specs::Spellings::kept_bytes))]
 pub fn put_snapshot(
     alloc: Global,
     p: &Program,
@@ -262,7 +267,8 @@ pub fn put_snapshot(
 {
     let text = print_program(alloc, p)?;
     let mut out = Bytes::new(alloc);
-    write_head(&mut out, device, generation, number, text.as_slice())?;
+    write_owner(&mut out, device, generation, number)?;
+    write_text(&mut out, text.as_slice())?;
     write_words(&mut out, state.words.as_slice())?;
     put_state(&mut out, &state.rep, shape)?;
     Ok(out)
