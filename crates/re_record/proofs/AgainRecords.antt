@@ -56,7 +56,7 @@ several_read f P read bytes one at (x ∷ xs) place each t =
     rw (first, others) refl
 
 -- the byte that stands first, and what stands behind it
-byte_first : (bytes : List ℕ) (at n : ℕ) (rest : List ℕ) (place : ℕ) → n < 256 → Takes bytes at (n ∷ rest) place → (number_at w8 bytes at ≡ Ok (n, at + 1)) × Takes bytes (at + 1) rest place
+pub byte_first : (bytes : List ℕ) (at n : ℕ) (rest : List ℕ) (place : ℕ) → n < 256 → Takes bytes at (n ∷ rest) place → (number_at w8 bytes at ≡ Ok (n, at + 1)) × Takes bytes (at + 1) rest place
 byte_first bytes at n rest place lt t =
     let first : Takes bytes at (to_be_bytes w8 n) (at + 1) = subst (λ (l : List ℕ). Takes bytes at l (at + 1)) (sym (byte_is n lt)) (Takes-first bytes at (n ∷ []) rest place t) in
     (number_again w8 (2 ^ 8) wide8 bytes at n (at + 1) lt first, Takes-second bytes at (n ∷ []) rest place t)

@@ -1,9 +1,12 @@
 pub mod AgainPuts
 pub mod AgainRecords
+pub mod KeptWords
 pub mod PutLists
 pub mod RecordLaws
 pub mod Roles
 pub mod SeveralMore
+pub mod SnapshotLaws
 pub mod TakesPuts
 pub mod TakesRecords
+pub mod TakesSnapshots
 pub mod WordLists

@@ -58,7 +58,7 @@ small_ids decls symbols r least (x ∷ puts) short each =
 -- ---- words
 
 -- a declaration takes the word in a role
-abbrev takes_word : ℕ → Option Slot → Word → Bool
+abbrev pub takes_word : ℕ → Option Slot → Word → Bool
 takes_word symbols found w = option_map_or (λ slot. is_allowed_word slot.kind slot.fold symbols w) found false
 
 -- the declaration with an id does

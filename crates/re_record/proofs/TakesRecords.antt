@@ -75,7 +75,7 @@ record ActTaken (symbols : ℕ) (k : RKind) (bytes : List ℕ) (at : ℕ) (a : A
   fits : is_act_of symbols k a ≡ true
 
 -- a tag that is one byte stands before what is behind it
-tag_then : (bytes : List ℕ) (at : ℕ) (tag : ℕ × ℕ) (n : ℕ) (rest : List ℕ) (place : ℕ) → n < 256 → Takes bytes at (to_be_bytes w8 tag.0) tag.1 → tag.0 ≡ n → Takes bytes tag.1 rest place → Takes bytes at (n ∷ rest) place
+pub tag_then : (bytes : List ℕ) (at : ℕ) (tag : ℕ × ℕ) (n : ℕ) (rest : List ℕ) (place : ℕ) → n < 256 → Takes bytes at (to_be_bytes w8 tag.0) tag.1 → tag.0 ≡ n → Takes bytes tag.1 rest place → Takes bytes at (n ∷ rest) place
 tag_then bytes at tag n rest place lt first is second =
     let byte : to_be_bytes w8 tag.0 ≡ n ∷ [] = ap (λ (m : ℕ). to_be_bytes w8 m) is ∙ byte_is n lt in
     Takes-then bytes at (n ∷ []) tag.1 rest place (subst (λ (l : List ℕ). Takes bytes at l tag.1) byte first) second
