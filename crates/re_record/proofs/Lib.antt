@@ -1,6 +1,7 @@
 pub mod AgainPuts
 pub mod AgainRecords
 pub mod KeptWords
+pub mod LoggedLengths
 pub mod PutLists
 pub mod RecordLaws
 pub mod Roles

@@ -30,6 +30,11 @@ pub record IsRecord (shape : Shape) (entries : List Logged) : Type 0 where
   pub few : length entries ≤ 9
   pub each : All (HasBytes shape) entries
 
+-- an entry is a turn
+abbrev pub IsTurn : Entry → Type 0
+IsTurn (entry.Turn t) = Unit {0}
+IsTurn (entry.Merge r) = ⊥
+
 -- ---- what may be read
 
 -- nothing is reserved in the lists of an entry

@@ -5,6 +5,8 @@
 
 mod entries;
 pub mod fault;
+pub mod laws;
+pub mod limits;
 mod numbers;
 mod operations;
 mod puts;
