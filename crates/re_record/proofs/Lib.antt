@@ -5,9 +5,12 @@ pub mod LoggedLengths
 pub mod PutLists
 pub mod RecordLaws
 pub mod Roles
+pub mod Samples
 pub mod SeveralMore
 pub mod SnapshotLaws
+pub mod StoreLaws
 pub mod TakesPuts
 pub mod TakesRecords
 pub mod TakesSnapshots
 pub mod WordLists
+pub mod Written

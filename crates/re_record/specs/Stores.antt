@@ -96,6 +96,10 @@ HasStore p device first second (Store generation snapshot entries) =
 
 -- ---- opening
 
+-- a store of this generation with these records may have been made: its journal was short enough at each open gate
+abbrev pub MayBeOpened : ℕ → List (List ℕ) → Type 0
+MayBeOpened generation bodies = (before behind : List (List ℕ)) (body : List ℕ) → bodies ≡ before ++ body ∷ behind → frame.MayOpen generation before
+
 -- the state and the entry number of blank files and of a store
 abbrev pub opened : Program → ℕ → Stored → Option Opened
 opened p device Blank = Some (unopened p)
