@@ -122,12 +122,13 @@ from_by symbols d decls (Some slot) found rest [] kept =
     absurd (let e = cells_more d decls true 1 some refl in let n = kept.count in omega (arith, e, n))
 from_by symbols d decls (Some slot) found rest (w ∷ ws) kept =
     let some : is_cell d ≡ true = cell_is d.body ∙ ap (λ (o : Option Slot). is_some o) found in
-    let first : is_kept_word symbols d.body w ≡ true = kept.kinds 0 d refl some in
-    (sym (ap (λ (o : Option Slot). takes_word symbols o w) found) ∙ change_word symbols d.body w ∙ first,
-    rest ws (record {
-      count = (let e = cells_more d decls true 1 some refl in let n = kept.count in omega (arith, e, n));
-      kinds = less_kinds symbols d decls (w ∷ ws) ws 1 (places d decls true 1 some refl) (moves w ws) kept.kinds;
-    }))
+    let first : is_kept_word symbols d.body w ≡ true = kept.kinds 0 d refl some in (
+      sym (ap (λ (o : Option Slot). takes_word symbols o w) found) ∙ change_word symbols d.body w ∙ first,
+      rest ws (record {
+        count = (let e = cells_more d decls true 1 some refl in let n = kept.count in omega (arith, e, n));
+        kinds = less_kinds symbols d decls (w ∷ ws) ws 1 (places d decls true 1 some refl) (moves w ws) kept.kinds;
+      }),
+    )
 
 from : (symbols : ℕ) (decls : List Decl) (ws : List Word) → AreKept symbols decls ws → AreWordsIn symbols (kept_slots decls) ws
 from symbols [] [] kept = tt

@@ -1,5 +1,7 @@
 pub mod AgainPuts
 pub mod AgainRecords
+pub mod BehindGates
+pub mod Examples
 pub mod KeptWords
 pub mod LoggedLengths
 pub mod PutLists

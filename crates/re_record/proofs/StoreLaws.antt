@@ -54,14 +54,17 @@ module _ (p : Program) (device g : ℕ) (s : Snapshot) (bodies : List (List ℕ)
   same_generation = generation_is p device g s.number s.state is_generation
 
   has_frame : AreRecords bodies → MayBeOpened g bodies → IsClosed rest → HasFrame file body bodies
-  has_frame records gates closed =
-      (rest, record {
-        whole = refl;
-        snapshot_length = (snapshot_some p device g s.number s.state, (let h = snapshot_long p device g s.number s.state is_program short fits.state in omega (arith, h)));
-        generation_fits = subst IsGeneration (sym same_generation) is_generation;
-        records = records;
-        gates = λ before behind last split. subst (λ (n : ℕ). MayOpen n before) (sym same_generation) (gates before behind last split);
-      }, closed)
+  has_frame records gates closed = (
+    rest,
+    record {
+      whole = refl;
+      snapshot_length = (snapshot_some p device g s.number s.state, (let h = snapshot_long p device g s.number s.state is_program short fits.state in omega (arith, h)));
+      generation_fits = subst IsGeneration (sym same_generation) is_generation;
+      records = records;
+      gates = λ before behind last split. subst (λ (n : ℕ). MayOpen n before) (sym same_generation) (gates before behind last split);
+    },
+    closed,
+  )
 
   has_snapshot : HasSnapshot p device body s
   has_snapshot = (fits, ap (λ (n : ℕ). snapshot_bytes p device n s.number s.state) (sym same_generation))

@@ -1,12 +1,12 @@
 //! What can be relied on of the lengths of records and snapshots, and of what two files are to a program.
 ghost use Rattle.std.specs.Prelude.{◌≡◌, ◌<◌, ◌≤◌, ◌∷◌, ◌++◌, [], length, List, ℕ};
 ghost use Rattle.std.specs.List.{All};
-ghost use Rattle.re_outside.specs.Frame.{AreRecords, IsClosed, IsGeneration, IsOlder, IsRecordLength, IsSnapshotLength, front, generation};
+ghost use Rattle.re_outside.specs.Frame.{AreRecords, HasStoreFrame, IsClosed, IsGeneration, IsOlder, IsRecordLength, IsSnapshotLength, Store, front, generation};
 ghost use Rattle.re_print.specs.Canonical.{program_text};
 ghost use Rattle.re_record.specs.Logs.{HasBytes, IsRecord, IsRecordOf, IsSnapshotOf, IsTurn};
 ghost use Rattle.re_record.specs.Restoring.{Opened, AreAccepted, after_all};
 ghost use Rattle.re_record.specs.Spellings.{logged_bytes, record_bytes, snapshot_bytes};
-ghost use Rattle.re_record.specs.Stores.{AreRecordsOf, MayBeOpened, OpensTo, laid};
+ghost use Rattle.re_record.specs.Stores.{AreRecordsOf, HasStore, MayBeOpened, OpensTo, Stored, laid};
 ghost use Rattle.re_record.specs.declared.limits.TheConstants.{ENTRY_BYTES, TURN_BYTES, RECORD_BYTES, SNAPSHOT_BYTES};
 ghost use Rattle.re_record.specs.declared.snapshots.Snapshot.{Snapshot};
 ghost use Rattle.re_terms.specs.Programs.{IsProgram};
@@ -45,5 +45,8 @@ pub fn store_law()
     ensures second { (p : Program) (device g : ℕ) (s : Snapshot) (bodies : List (List ℕ)) (rest first : List ℕ) (entries : List Logged) → IsProgram p → length (program_text p) ≤ 65536 → IsGeneration g → IsSnapshotOf p s.number s.state → AreRecords bodies → MayBeOpened g bodies → IsClosed rest → IsOlder first g → AreRecordsOf p device (laid s) bodies entries → OpensTo p device first (front (snapshot_bytes p device g s.number s.state) bodies ++ rest) (after_all p device entries (laid s)) }
     ensures more { (p : Program) (device : ℕ) (o : Opened) (bodies : List (List ℕ)) (entries next : List Logged) → AreRecordsOf p device o bodies entries → IsRecordOf p next → AreAccepted p device (after_all p device entries o) next → AreRecordsOf p device o (bodies ++ record_bytes (shape_of p).devices next ∷ []) (entries ++ next) }
     ensures done { (p : Program) (device : ℕ) (entries others : List Logged) (o : Opened) → after_all p device (entries ++ others) o ≡ after_all p device others (after_all p device entries o) }
+    // Bytes from the first closed gate of the file that counts on don't matter, as long as a closed gate stands there.
+    ensures behind_first { (p : Program) (device : ℕ) (body : List ℕ) (bodies : List (List ℕ)) (rest other second : List ℕ) (x : Stored) → HasStoreFrame (front body bodies ++ rest) second (Store 0 body bodies) → IsClosed other → HasStore p device (front body bodies ++ rest) second x → HasStore p device (front body bodies ++ other) second x }
+    ensures behind_second { (p : Program) (device : ℕ) (body : List ℕ) (bodies : List (List ℕ)) (rest other first : List ℕ) (x : Stored) → HasStoreFrame first (front body bodies ++ rest) (Store 1 body bodies) → IsClosed other → HasStore p device first (front body bodies ++ rest) x → HasStore p device first (front body bodies ++ other) x }
     ensures one { (p : Program) (device : ℕ) (first second : List ℕ) (o other : Opened) → IsProgram p → device < 256 → OpensTo p device first second o → OpensTo p device first second other → o ≡ other }
 {}

@@ -62,12 +62,7 @@ fn get_several(
 
 /// The entries of a record.
 #[tactic(auto, unfolding(crate::specs::Reading::record_at))]
-fn record(
-    alloc: Global,
-    bytes: &[u8],
-    p: &Program,
-    shape: &Shape,
-) -> Result<Seq<Logged>, WireFault>
+fn record(alloc: Global, bytes: &[u8], p: &Program, shape: &Shape) -> Result<Seq<Logged>, WireFault>
     requires shape { IsShape shape.now }
     requires limit { length bytes.now < 2 ^ 32 }
     ensures { Gives result (record_at p.now shape.now bytes.now) }
@@ -111,11 +106,7 @@ pub fn get_entries(
 /// The record of 1 to 9 entries with their changes. Nothing is reserved behind it. The one refusal is want of memory.
 /// `docs/FORMATS.md` has the layout.
 #[tactic(auto, unfolding(crate::specs::Spellings::record_bytes))]
-pub fn put_entries(
-    alloc: Global,
-    entries: &Seq<Logged>,
-    shape: &Shape,
-) -> Result<Bytes, AllocError>
+pub fn put_entries(alloc: Global, entries: &Seq<Logged>, shape: &Shape) -> Result<Bytes, AllocError>
     requires shape { IsShape shape.now }
     requires bytes { IsRecord shape.now entries.now.items }
     ensures { IfOk result (λ out. out ≡ plain (record_bytes shape.now.devices entries.now.items)) }

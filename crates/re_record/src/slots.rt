@@ -27,11 +27,11 @@ pub fn slot_of(role: Role, body: &Body) -> Option<Slot>
     ensures { result ≡ slot_of role body.now }
 {
     match (role, body) {
-        (Role::Set | Role::Change, Body::Var { kind, .. })
-        | (Role::Fire, Body::Event { kind }) => Some(Slot {
-            kind: *kind,
-            fold: false,
-        }),
+        (Role::Set | Role::Change, Body::Var { kind, .. }) | (Role::Fire, Body::Event { kind }) =>
+            Some(Slot {
+                kind: *kind,
+                fold: false,
+            }),
         (Role::Change, Body::Fold { kind, .. }) => Some(Slot {
             kind: *kind,
             fold: true,

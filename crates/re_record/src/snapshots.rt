@@ -212,12 +212,7 @@ pub fn get_snapshot(
 }
 
 /// Writes the generation, the format, the device and the entry number. The one refusal is want of memory.
-fn write_owner(
-    out: &mut Bytes,
-    device: u8,
-    generation: u64,
-    number: u64,
-) -> Result<(), AllocError>
+fn write_owner(out: &mut Bytes, device: u8, generation: u64, number: u64) -> Result<(), AllocError>
     ensures { OnOk result (out.new ≡ appended out.old (owner_bytes device generation number)) }
 {
     write(out, &generation.to_be_bytes())?;

@@ -90,7 +90,13 @@ pub fn get_turn(
     let (sets, at_fires) = get_part(alloc, bytes, at, decls, symbols, Role::Set, 0)?;
     let set_count = sets.len() as u8;
     let (fires, at_ops) = get_part(
-        alloc, bytes, at_fires, decls, symbols, Role::Fire, set_count,
+        alloc,
+        bytes,
+        at_fires,
+        decls,
+        symbols,
+        Role::Fire,
+        set_count,
     )?;
     let earlier = set_count + fires.len() as u8;
     let (ops, behind) = get_turn_operations(alloc, bytes, at_ops, shape, earlier)?;

@@ -29,23 +29,23 @@ loop-decl-preserved c =
     let lt : c.loop-decl.decl-index < length c.args.decls.now = omega (arith, c.loop-decl-test.true) in
     elim c.match-slot_of.branch [
       | in-Some+in_ok-word+in_ok-push w ↦
-        let some : slot_of Change c.decl-item.result.body ≡ Some w.in-Some.slot = sym c.slot_of.ensures ∙ w.in-Some.is in
-        let pushed = w.in_ok-push.ensures.ok in
-        let items : w.push.new.self.items ≡ c.loop-decl.words.items ++ w.in_ok-word.word ∷ [] = ap (λ m. m.items) pushed in
-        let next = goes_on c.args.symbols c.args.bytes.now c.loop-decl.words.items c.args.decls.now c.loop-decl.decl-index c.loop-decl.behind c.decl-item.result w.in-Some.slot w.in_ok-word.word w.in_ok-word.next _ lt c.decl-item.is some w.in_ok-word.ensures.exact c.loop-decl.invariant.so_far in
-        record {
-          so_far = rw (w.words-is, w.behind-is, items) next;
-          spare = omega (arith, ap (λ m. m.spare) w.words-is, ap (λ m. m.spare) pushed, c.loop-decl.invariant.spare);
-          within = omega (arith, w.behind-is, w.in_ok-word.ensures.within);
-        }
+          let some : slot_of Change c.decl-item.result.body ≡ Some w.in-Some.slot = sym c.slot_of.ensures ∙ w.in-Some.is in
+          let pushed = w.in_ok-push.ensures.ok in
+          let items : w.push.new.self.items ≡ c.loop-decl.words.items ++ w.in_ok-word.word ∷ [] = ap (λ m. m.items) pushed in
+          let next = goes_on c.args.symbols c.args.bytes.now c.loop-decl.words.items c.args.decls.now c.loop-decl.decl-index c.loop-decl.behind c.decl-item.result w.in-Some.slot w.in_ok-word.word w.in_ok-word.next _ lt c.decl-item.is some w.in_ok-word.ensures.exact c.loop-decl.invariant.so_far in
+          record {
+            so_far = rw (w.words-is, w.behind-is, items) next;
+            spare = omega (arith, ap (λ m. m.spare) w.words-is, ap (λ m. m.spare) pushed, c.loop-decl.invariant.spare);
+            within = omega (arith, w.behind-is, w.in_ok-word.ensures.within);
+          }
       | in_default w ↦
-        let none : slot_of Change c.decl-item.result.body ≡ None = sym c.slot_of.ensures ∙ no_slot c.slot_of.result w.in_default.not-Some in
-        let next = skips c.args.symbols c.args.bytes.now c.loop-decl.words.items c.args.decls.now c.loop-decl.decl-index c.loop-decl.behind c.decl-item.result _ lt c.decl-item.is none c.loop-decl.invariant.so_far in
-        record {
-          so_far = rw (w.words-is, w.behind-is) next;
-          spare = omega (arith, ap (λ m. m.spare) w.words-is, c.loop-decl.invariant.spare);
-          within = omega (arith, w.behind-is, c.loop-decl.invariant.within);
-        }
+          let none : slot_of Change c.decl-item.result.body ≡ None = sym c.slot_of.ensures ∙ no_slot c.slot_of.result w.in_default.not-Some in
+          let next = skips c.args.symbols c.args.bytes.now c.loop-decl.words.items c.args.decls.now c.loop-decl.decl-index c.loop-decl.behind c.decl-item.result _ lt c.decl-item.is none c.loop-decl.invariant.so_far in
+          record {
+            so_far = rw (w.words-is, w.behind-is) next;
+            spare = omega (arith, ap (λ m. m.spare) w.words-is, c.loop-decl.invariant.spare);
+            within = omega (arith, w.behind-is, c.loop-decl.invariant.within);
+          }
     ]
 
 pub returns-clause-exact : goal.returns-clause-exact
