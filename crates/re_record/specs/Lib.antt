@@ -1,0 +1,9 @@
+pub mod Logs
+pub mod Reading
+pub mod Represents
+pub mod Restoring
+pub mod Sample
+pub mod Slots
+pub mod Snapshots
+pub mod Spellings
+pub mod Stores
