@@ -4,7 +4,7 @@ ghost use Rattle.re_outside.specs.Listed.{plain};
 ghost use Rattle.re_outside.specs.Moment.{Throughout, Leaves};
 ghost use Rattle.re_outside.specs.Outside.{Rose};
 ghost use Rattle.re_outside.specs.Trace.{with_steps, content_of};
-ghost use Rattle.re_journal.specs.Commits.{commit_steps, StopsJournal, IsStopOf, HasCause};
+ghost use Rattle.re_journal.specs.Commits.{commit_steps, StopsJournal, StopsInTurn, IsStopOf, IsStopInTurn, HasCause};
 ghost use Rattle.re_journal.specs.Journals.{calls_after, frame_of, StandsOn, MayFollow, HasAllOrOneMore, Commits};
 ghost use Rattle.re_journal.specs.declared.fault.JournalFault.TheVariants.{Disk as DiskFault, Stopped};
 
@@ -82,9 +82,9 @@ impl Journal {
     fn make_calls<D: Disk>(&mut self, disk: &mut D, framed: &[u8]) -> Result<(), JournalFault>
         ensures fits { OnOk result (self.old.gate + 1 + length framed.now ≤ 2 ^ 64 - 1) }
         ensures done { D.tells → OnOk result (D.past disk.new ≡ with_steps (D.past disk.old) (commit_steps (D.past disk.old).device self.old.file self.old.gate framed.now)) }
-        ensures failed { D.tells → OnErr result (StopsJournal (commit_steps (D.past disk.old).device self.old.file self.old.gate framed.now) self.old.calls self.new.stopped (D.past disk.old) (D.past disk.new)) }
+        ensures failed { D.tells → OnErr result (StopsInTurn (commit_steps (D.past disk.old).device self.old.file self.old.gate framed.now) self.old.calls self.new.stopped (D.past disk.old) (D.past disk.new)) }
         ensures journal { OnOk result (self.new ≡ record self.old { calls = calls_after 4 self.old.calls }) }
-        ensures stopped_at { OnErr result (IsStopOf 4 self.old.calls self.new.stopped) }
+        ensures stopped_at { OnErr result (IsStopInTurn 4 self.old.calls self.new.stopped) }
         ensures file { self.new.file ≡ self.old.file }
         ensures faults { MatchResult result (λ _. D.faults disk.new ≡ D.faults disk.old) (λ fault. (fault ≡ DiskFault) × Rose (D.faults disk.old) (D.faults disk.new)) }
         ensures device { (D.past disk.new).device ≡ (D.past disk.old).device }
