@@ -12,7 +12,8 @@ use Rattle.re_outside.proofs.Safe.{ran_safe, stops_safe}
 use Rattle.re_outside.proofs.Steps.{kept, same_device}
 use Rattle.re_outside.proofs.SyncedChanges.{changes_safe, changes_settle}
 use Rattle.re_compact.specs.Laying.{laying, opening, prepare_steps, publish_steps, IsSnapshot}
-use Rattle.re_compact.specs.Pair.{other_of, IsIn, Holds, Rests, IsPrepared, IsOldOrNew}
+use Rattle.re_compact.specs.Pair.{IsIn, Holds, Rests, IsOldOrNew}
+use Rattle.re_journal.specs.Journals.{other_file, frame_of}
 use Rattle.re_compact.proofs.Laid.{IsSameOrBlank, lay_keeps, laid, IsShutOrOpen, open_keeps, opened, shut_blank}
 use Rattle.re_compact.proofs.Stores.{first_emptied, second_emptied, first_published, second_published}
 
@@ -22,13 +23,13 @@ module _ (f g : ℕ) (apart : f ≢ g) (old now : Past) (before : IsBefore old n
   own_kept : IsKept old.device f old now
   own_kept = kept g old.device f old now before only (inr apart)
 
-  own_content : content_of now f ≡ content_of old f
+  pub own_content : content_of now f ≡ content_of old f
   own_content = ap (λ d. content_at now d f) (same_device old now before) ∙ own_kept.content
 
   own_image : (file : List ℕ) → IsCrashImageOf now f file → IsCrashImageOf old f file
   own_image file image = own_kept.images file (subst (λ d. IsCrashImageAt now d f file) (same_device old now before) image)
 
-  own_settled : (bytes : List ℕ) → IsSettled f bytes old → IsSettled f bytes now
+  pub own_settled : (bytes : List ℕ) → IsSettled f bytes old → IsSettled f bytes now
   own_settled bytes settled = record { content = own_content ∙ settled.content; only = λ file image. settled.only file (own_image file image) }
 
 -- ---- the two files together
@@ -76,7 +77,7 @@ module _ (held : StoreFrame) (old : Past) (rests : Rests held old) where
   first_same here file (inr blank) = (held, first_emptied (content_of old 0) (content_of old 1) file held rests.frame here blank, refl)
 
   -- at each moment
-  same_throughout : (f : ℕ) → f < 2 → IsIn f held → (new : Past) → Throughout old new (Leaves (other_of f) (IsSameOrBlank (content_of old (other_of f))) old) → Throughout old new (Holds (SameHeld held) old)
+  same_throughout : (f : ℕ) → f < 2 → IsIn f held → (new : Past) → Throughout old new (Leaves (other_file f) (IsSameOrBlank (content_of old (other_file f))) old) → Throughout old new (Holds (SameHeld held) old)
   same_throughout zero low here new t = record {
     goes_on = t.goes_on;
     each = λ now on behind. second_touched held old now rests on (SameHeld held) (IsSameOrBlank (content_of old 1)) (second_same here) (t.each now on behind);
@@ -87,7 +88,7 @@ module _ (held : StoreFrame) (old : Past) (rests : Rests held old) where
   }
   same_throughout (suc (suc f)) low here new t = absurd (omega arith)
 
-  settled_of : (g : ℕ) → g < 2 → IsSettled g (content_of old g) old
+  pub settled_of : (g : ℕ) → g < 2 → IsSettled g (content_of old g) old
   settled_of zero low = rests.first
   settled_of (suc zero) low = rests.second
   settled_of (suc (suc g)) low = absurd (omega arith)
@@ -97,7 +98,7 @@ as_read : (f : ℕ) (bytes : List ℕ) (now : Past) → IsSettled f bytes now �
 as_read f bytes now settled = record { content = refl; only = λ file image. settled.only file image ∙ sym settled.content }
 
 -- both files are settled
-resting : (held : StoreFrame) (first second : List ℕ) (now : Past) → IsSettled 0 first now → IsSettled 1 second now → HasStoreFrame first second held → Rests held now
+pub resting : (held : StoreFrame) (first second : List ℕ) (now : Past) → IsSettled 0 first now → IsSettled 1 second now → HasStoreFrame first second held → Rests held now
 resting held first second now a b frame = record {
   first = as_read 0 first now a;
   second = as_read 1 second now b;
@@ -106,16 +107,16 @@ resting held first second now a b frame = record {
 
 module _ (held : StoreFrame) (old : Past) (rests : Rests held old) (f : ℕ) (low : f < 2) (here : IsIn f held) (framed : List ℕ) where
   abbrev other : List ℕ
-  other = content_of old (other_of f)
+  other = content_of old (other_file f)
 
   abbrev plan : List Step
-  plan = prepare_steps old.device (other_of f) (is_blank other) (length other) framed
+  plan = prepare_steps old.device (other_file f) (is_blank other) (length other) framed
 
-  other_low : other_of f < 2
+  other_low : other_file f < 2
   other_low = omega arith
 
-  prepare_leaves : IsSafe (Leaves (other_of f) (IsSameOrBlank other) old) plan old
-  prepare_leaves = changes_safe (other_of f) (IsSameOrBlank other) old (laying (is_blank other) (length other) framed) other old refl refl (settled_of held old rests (other_of f) other_low) (lay_keeps other framed)
+  pub prepare_leaves : IsSafe (Leaves (other_file f) (IsSameOrBlank other) old) plan old
+  prepare_leaves = changes_safe (other_file f) (IsSameOrBlank other) old (laying (is_blank other) (length other) framed) other old refl refl (settled_of held old rests (other_file f) other_low) (lay_keeps other framed)
 
   -- where all calls came through
   pub prepared_throughout : (new : Past) → new ≡ with_steps old plan → Throughout old new (Holds (SameHeld held) old)
@@ -125,17 +126,17 @@ module _ (held : StoreFrame) (old : Past) (rests : Rests held old) (f : ℕ) (lo
   pub prepare_stopped_throughout : (calls at : ℕ) (new : Past) → StopsAt plan calls at old new → Throughout old new (Holds (SameHeld held) old)
   prepare_stopped_throughout calls at new stops = same_throughout held old rests f low here new (stops_safe _ plan calls at old new prepare_leaves stops)
 
-  pub prepared_settled : (new : Past) → new ≡ with_steps old plan → IsSettled (other_of f) (0 ∷ framed) new
+  pub prepared_settled : (new : Past) → new ≡ with_steps old plan → IsSettled (other_file f) (0 ∷ framed) new
   prepared_settled new is =
-      subst (IsSettled (other_of f) (0 ∷ framed)) (sym is) (subst (λ l. IsSettled (other_of f) l (with_steps old plan)) (laid other framed)
-          (changes_settle (other_of f) (laying (is_blank other) (length other) framed) other old (settled_of held old rests (other_of f) other_low)))
+      subst (IsSettled (other_file f) (0 ∷ framed)) (sym is) (subst (λ l. IsSettled (other_file f) l (with_steps old plan)) (laid other framed)
+          (changes_settle (other_file f) (laying (is_blank other) (length other) framed) other old (settled_of held old rests (other_file f) other_low)))
 
-zero_blank : (framed : List ℕ) → is_blank (0 ∷ framed) ≡ true
+pub zero_blank : (framed : List ℕ) → is_blank (0 ∷ framed) ≡ true
 zero_blank framed = shut_blank (0 ∷ framed) (λ (e : ◌≡◌ {A = ℕ} 0 1). absurd (omega arith))
 
 -- both files are settled after it, and hold what they held
 pub prepared_rests : (held : StoreFrame) (old new : Past) → Rests held old → (f : ℕ) → f < 2 → IsIn f held → (framed : List ℕ)
-    → new ≡ with_steps old (prepare_steps old.device (other_of f) (is_blank (content_of old (other_of f))) (length (content_of old (other_of f))) framed) → Rests held new
+    → new ≡ with_steps old (prepare_steps old.device (other_file f) (is_blank (content_of old (other_file f))) (length (content_of old (other_file f))) framed) → Rests held new
 prepared_rests held old new rests zero low here framed is =
     let leaves = at_end old new _ (ran_safe _ _ old new (prepare_leaves held old rests 0 low here framed) is) in
     resting held (content_of old 0) (0 ∷ framed) new (own_settled 0 1 zero_one old new (_, is) leaves.others (content_of old 0) rests.first) (prepared_settled held old rests 0 low here framed new is)
@@ -160,7 +161,7 @@ module _ (held : StoreFrame) (old : Past) (rests : Rests held old) (snapshot : L
   first_new here older file (inl blank) = (held, first_emptied (content_of old 0) (content_of old 1) file held rests.frame here blank, inl refl)
   first_new here older file (inr open_) = (Store 0 snapshot [], subst (λ l. HasStoreFrame l (content_of old 1) (Store 0 snapshot [])) (sym open_) (first_published (content_of old 1) snapshot g is older), inr refl)
 
-  new_throughout : (f : ℕ) → f < 2 → IsIn f held → IsOlder (content_of old f) g → (new : Past) → Throughout old new (Leaves (other_of f) (IsShutOrOpen tail) old) → Throughout old new (Holds (IsOldOrNew held (other_of f) snapshot) old)
+  new_throughout : (f : ℕ) → f < 2 → IsIn f held → IsOlder (content_of old f) g → (new : Past) → Throughout old new (Leaves (other_file f) (IsShutOrOpen tail) old) → Throughout old new (Holds (IsOldOrNew held (other_file f) snapshot) old)
   new_throughout zero low here older new t = record {
     goes_on = t.goes_on;
     each = λ now on behind. second_touched held old now rests on (IsOldOrNew held 1 snapshot) (IsShutOrOpen tail) (second_new here older) (t.each now on behind);
@@ -171,24 +172,24 @@ module _ (held : StoreFrame) (old : Past) (rests : Rests held old) (snapshot : L
   }
   new_throughout (suc (suc f)) low here older new t = absurd (omega arith)
 
-  module _ (f : ℕ) (low : f < 2) (here : IsIn f held) (older : IsOlder (content_of old f) g) (prepared : IsPrepared (other_of f) snapshot old) where
-    publish_leaves : IsSafe (Leaves (other_of f) (IsShutOrOpen tail) old) (publish_steps old.device (other_of f)) old
-    publish_leaves = changes_safe (other_of f) (IsShutOrOpen tail) old opening (0 ∷ tail) old refl refl prepared (open_keeps tail)
+  module _ (f : ℕ) (low : f < 2) (here : IsIn f held) (older : IsOlder (content_of old f) g) (prepared : IsSettled (other_file f) (0 ∷ frame_of snapshot) old) where
+    pub publish_leaves : IsSafe (Leaves (other_file f) (IsShutOrOpen tail) old) (publish_steps old.device (other_file f)) old
+    publish_leaves = changes_safe (other_file f) (IsShutOrOpen tail) old opening (0 ∷ tail) old refl refl prepared (open_keeps tail)
 
-    pub published_throughout : (new : Past) → new ≡ with_steps old (publish_steps old.device (other_of f)) → Throughout old new (Holds (IsOldOrNew held (other_of f) snapshot) old)
-    published_throughout new done = new_throughout f low here older new (ran_safe _ (publish_steps old.device (other_of f)) old new publish_leaves done)
+    pub published_throughout : (new : Past) → new ≡ with_steps old (publish_steps old.device (other_file f)) → Throughout old new (Holds (IsOldOrNew held (other_file f) snapshot) old)
+    published_throughout new done = new_throughout f low here older new (ran_safe _ (publish_steps old.device (other_file f)) old new publish_leaves done)
 
-    pub publish_stopped_throughout : (calls at : ℕ) (new : Past) → StopsAt (publish_steps old.device (other_of f)) calls at old new → Throughout old new (Holds (IsOldOrNew held (other_of f) snapshot) old)
-    publish_stopped_throughout calls at new stops = new_throughout f low here older new (stops_safe _ (publish_steps old.device (other_of f)) calls at old new publish_leaves stops)
+    pub publish_stopped_throughout : (calls at : ℕ) (new : Past) → StopsAt (publish_steps old.device (other_file f)) calls at old new → Throughout old new (Holds (IsOldOrNew held (other_file f) snapshot) old)
+    publish_stopped_throughout calls at new stops = new_throughout f low here older new (stops_safe _ (publish_steps old.device (other_file f)) calls at old new publish_leaves stops)
 
-    pub published_settled : (new : Past) → new ≡ with_steps old (publish_steps old.device (other_of f)) → IsSettled (other_of f) (1 ∷ tail) new
+    pub published_settled : (new : Past) → new ≡ with_steps old (publish_steps old.device (other_file f)) → IsSettled (other_file f) (1 ∷ tail) new
     published_settled new done =
-        subst (IsSettled (other_of f) (1 ∷ tail)) (sym done) (subst (λ l. IsSettled (other_of f) l (with_steps old (publish_steps old.device (other_of f)))) (opened tail)
-            (changes_settle (other_of f) opening (0 ∷ tail) old prepared))
+        subst (IsSettled (other_file f) (1 ∷ tail)) (sym done) (subst (λ l. IsSettled (other_file f) l (with_steps old (publish_steps old.device (other_file f)))) (opened tail)
+            (changes_settle (other_file f) opening (0 ∷ tail) old prepared))
 
 -- both files are settled after it, and hold the new store
-pub published_rests : (held : StoreFrame) (old new : Past) → Rests held old → (snapshot : List ℕ) (g : ℕ) → IsSnapshot snapshot g → (f : ℕ) → f < 2 → IsIn f held → IsOlder (content_of old f) g → IsPrepared (other_of f) snapshot old
-    → new ≡ with_steps old (publish_steps old.device (other_of f)) → Rests (Store (other_of f) snapshot []) new
+pub published_rests : (held : StoreFrame) (old new : Past) → Rests held old → (snapshot : List ℕ) (g : ℕ) → IsSnapshot snapshot g → (f : ℕ) → f < 2 → IsIn f held → IsOlder (content_of old f) g → IsSettled (other_file f) (0 ∷ frame_of snapshot) old
+    → new ≡ with_steps old (publish_steps old.device (other_file f)) → Rests (Store (other_file f) snapshot []) new
 published_rests held old new rests snapshot g is zero low here older prepared done =
     let leaves = at_end old new _ (ran_safe _ _ old new (publish_leaves held old rests snapshot g is 0 low here older prepared) done) in
     resting (Store 1 snapshot []) (content_of old 0) (1 ∷ (framed snapshot ++ 0 ∷ [])) new (own_settled 0 1 zero_one old new (_, done) leaves.others (content_of old 0) rests.first)

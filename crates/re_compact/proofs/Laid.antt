@@ -1,5 +1,5 @@
 -- What a stop leaves of the file into which a snapshot is laid.
-use Rattle.std.specs.Prelude.{nat_lt, nat_le, ◌||◌, ◌==◌, not, if◌then◌else◌}
+use Rattle.std.specs.Prelude.{nat_le, ◌||◌, ◌==◌, not, if◌then◌else◌}
 use Rattle.std.proofs.Common.{◌≡◌, ◌≢◌, ◌⊎◌, inl, inr, ℕ, suc, ◌+◌, ◌<◌, ◌≤◌, Bool, true, false, List, [], ◌∷◌, ◌++◌, length, slice_index, get_or, take, drop, get_or-take, length-take, refl, sym, ◌∙◌, ap, subst, arith}
 use Rattle.std.proofs.lemmas.Bool.{cases_eq}
 use Rattle.std.proofs.lemmas.Bool.Decides.{leb_tells, eqb_tells, nat_tests}
@@ -108,27 +108,33 @@ emptying framed tail x is_open = (
     by_gate new is (inl e) = inl (is ∙ ap (λ (g : ℕ). g ∷ tail) (e ∙ sym is_open))
     by_gate new is (inr shut) = inr (shut_blank new shut)
 
-lay_cases : (old framed : List ℕ) (blank long : Bool) → is_blank old ≡ blank → nat_lt 1 (length old) ≡ long
-    → KeepSafe (IsSameOrBlank old) old ((if blank then [] else WriteAt 0 (0 ∷ []) ∷ []) ++ (if long then CutAt 1 ∷ [] else []) ++ (WriteAt 0 (0 ∷ []) ∷ WriteAt 1 framed ∷ []))
-lay_cases old framed true false is size = last (IsSameOrBlank old) (λ file b. inr b) framed old (elim (leb_tells 2 (length old)) [ | inl long ↦ absurd (let e = long.0 in cc) | inr short ↦ omega (arith, short.1) ])
-lay_cases old framed true true is size = elim (blank_cases old is) [
-  | inl short ↦ absurd (elim (leb_tells 2 (length old)) [ | inl long ↦ omega (arith, long.1) | inr not ↦ (let e = not.0 in cc) ])
+is_short : (file : List ℕ) → nat_le (length file) 1 ≡ true → length file ≤ 1
+is_short file e = elim (leb_tells (length file) 1) [ | inl short ↦ short.1 | inr long ↦ absurd (let other = long.0 in cc) ]
+
+is_long : (file : List ℕ) → nat_le (length file) 1 ≡ false → 1 < length file
+is_long file e = elim (leb_tells (length file) 1) [ | inl short ↦ absurd (let other = short.0 in cc) | inr long ↦ long.1 ]
+
+lay_cases : (old framed : List ℕ) (blank short : Bool) → is_blank old ≡ blank → nat_le (length old) 1 ≡ short
+    → KeepSafe (IsSameOrBlank old) old ((if blank then [] else WriteAt 0 (0 ∷ []) ∷ []) ++ (if short then [] else CutAt 1 ∷ []) ++ (WriteAt 0 (0 ∷ []) ∷ WriteAt 1 framed ∷ []))
+lay_cases old framed true true is size = last (IsSameOrBlank old) (λ file b. inr b) framed old (is_short old size)
+lay_cases old framed true false is size = elim (blank_cases old is) [
+  | inl short ↦ absurd (let h = is_long old size in omega arith)
   | inr shut ↦ trimmed (IsSameOrBlank old) (λ file b. inr b) framed old shut
 ]
-lay_cases old framed false false is size = absurd (elim (leb_tells 2 (length old)) [ | inl long ↦ (let e = long.0 in cc) | inr not ↦ (let h = full_head old is in omega (arith, h.0, not.1)) ])
-lay_cases [] framed false true is size = absurd (cc)
-lay_cases (x ∷ tail) framed false true is size = emptying framed tail x (full_head (x ∷ tail) is).1
+lay_cases old framed false true is size = absurd (let short = is_short old size in let h = full_head old is in omega (arith, h.0))
+lay_cases [] framed false false is size = absurd (cc)
+lay_cases (x ∷ tail) framed false false is size = emptying framed tail x (full_head (x ∷ tail) is).1
 
 -- a stop within leaves the file as it was, or blank
 pub lay_keeps : (old framed : List ℕ) → KeepSafe (IsSameOrBlank old) old (laying (is_blank old) (length old) framed)
-lay_keeps old framed = lay_cases old framed (is_blank old) (nat_lt 1 (length old)) refl refl
+lay_keeps old framed = lay_cases old framed (is_blank old) (nat_le (length old) 1) refl refl
 
 -- ---- what is laid
 
 -- a frame written behind the one byte of a file
 behind_gate : (framed : List ℕ) → written (0 ∷ []) 1 framed ≡ 0 ∷ framed
 behind_gate framed =
-    let none : drop (1 + length framed) (0 ∷ []) ≡ [] = drop_all (1 + length framed) (0 ∷ []) (omega arith) in
+    let none : ◌≡◌ {A = List ℕ} (drop (1 + length framed) (0 ∷ [])) [] = drop_all (1 + length framed) (0 ∷ []) (omega arith) in
     written_inside (0 ∷ []) 1 framed (omega arith) ∙ (ap (λ (l : List ℕ). 0 ∷ (framed ++ l)) none ∙ ap (λ (l : List ℕ). 0 ∷ l) (append-nil framed))
 
 laid_short : (file framed : List ℕ) → length file ≤ 1 → all_changed file (WriteAt 0 (0 ∷ []) ∷ WriteAt 1 framed ∷ []) ≡ 0 ∷ framed
@@ -137,16 +143,16 @@ laid_short file framed short = ap (λ l. written l 1 framed) (emptied file short
 laid_cut : (file framed : List ℕ) → all_changed file (CutAt 1 ∷ WriteAt 0 (0 ∷ []) ∷ WriteAt 1 framed ∷ []) ≡ 0 ∷ framed
 laid_cut file framed = laid_short (take 1 file) framed (simp length-take (omega arith))
 
-laid_cases : (old framed : List ℕ) (blank long : Bool) → is_blank old ≡ blank → nat_lt 1 (length old) ≡ long
-    → all_changed old ((if blank then [] else WriteAt 0 (0 ∷ []) ∷ []) ++ (if long then CutAt 1 ∷ [] else []) ++ (WriteAt 0 (0 ∷ []) ∷ WriteAt 1 framed ∷ [])) ≡ 0 ∷ framed
-laid_cases old framed true false is size = laid_short old framed (elim (leb_tells 2 (length old)) [ | inl long ↦ absurd (let e = long.0 in cc) | inr short ↦ omega (arith, short.1) ])
-laid_cases old framed true true is size = laid_cut old framed
-laid_cases old framed false false is size = absurd (elim (leb_tells 2 (length old)) [ | inl long ↦ (let e = long.0 in cc) | inr not ↦ (let h = full_head old is in omega (arith, h.0, not.1)) ])
-laid_cases old framed false true is size = laid_cut (written old 0 (0 ∷ [])) framed
+laid_cases : (old framed : List ℕ) (blank short : Bool) → is_blank old ≡ blank → nat_le (length old) 1 ≡ short
+    → all_changed old ((if blank then [] else WriteAt 0 (0 ∷ []) ∷ []) ++ (if short then [] else CutAt 1 ∷ []) ++ (WriteAt 0 (0 ∷ []) ∷ WriteAt 1 framed ∷ [])) ≡ 0 ∷ framed
+laid_cases old framed true true is size = laid_short old framed (is_short old size)
+laid_cases old framed true false is size = laid_cut old framed
+laid_cases old framed false true is size = absurd (let short = is_short old size in let h = full_head old is in omega (arith, h.0))
+laid_cases old framed false false is size = laid_cut (written old 0 (0 ∷ [])) framed
 
 -- the file after all the changes
 pub laid : (old framed : List ℕ) → all_changed old (laying (is_blank old) (length old) framed) ≡ 0 ∷ framed
-laid old framed = laid_cases old framed (is_blank old) (nat_lt 1 (length old)) refl refl
+laid old framed = laid_cases old framed (is_blank old) (nat_le (length old) 1) refl refl
 
 -- ---- opening the gate
 

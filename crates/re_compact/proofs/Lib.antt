@@ -1,4 +1,6 @@
 pub mod Crash
 pub mod Fronts
 pub mod Laid
+pub mod Steps
 pub mod Stores
+pub mod Standing

@@ -1,7 +1,7 @@
 -- What the two files of a device hold, what a stop may leave of them, and where a journal stands on them.
 -- Read against: beside a file 0 with a store, a file 1 of the bytes 00 00 leaves the store of file 0; one that begins with 01 and a
 -- snapshot of the next generation, with a closed gate behind it, is the store of that snapshot with no record.
-use Rattle.std.specs.Prelude.{◌≡◌, ◌⊎◌, ℕ, List, [], ◌∷◌}
+use Rattle.std.specs.Prelude.{◌≡◌, ◌⊎◌, ℕ, ◌-◌, ◌==◌, List, [], ◌∷◌}
 use Rattle.re_outside.specs.Frame.{StoreFrame, Blank, Bad, Store, HasStoreFrame, IsOlder}
 use Rattle.re_outside.specs.Trace.{Past, content_of, IsCrashImageOf}
 use Rattle.re_outside.specs.Moment.{IsSettled, OnlyDeviceMoves}
@@ -51,3 +51,14 @@ pub record MayReplace (own snapshot : List ℕ) : Type 0 where
 -- what was held, or the new store of this snapshot alone
 abbrev pub IsOldOrNew : StoreFrame → ℕ → List ℕ → StoreFrame → Type 0
 IsOldOrNew held file snapshot frame = (frame ≡ held) ⊎ (frame ≡ Store file snapshot [])
+
+-- the journal took the other file for its own, which holds a snapshot behind an open gate and no record, and has made so many calls
+pub record TurnsOver (count : ℕ) (old new : Journal) : Type 0 where
+  pub file : new.file ≡ other_file old.file
+  pub start : new.start ≡ old.other_length - 1
+  pub gate : new.gate ≡ old.other_length - 1
+  pub length : new.length ≡ old.other_length
+  pub calls : new.calls ≡ count
+  pub other_length : new.other_length ≡ old.length
+  pub other_blank : new.other_blank ≡ (old.start == 0)
+  pub running : new.stopped ≡ old.stopped

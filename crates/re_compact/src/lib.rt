@@ -2,5 +2,7 @@
 #![tactic(auto)]
 
 mod heads;
+mod laying;
 
 pub use heads::Head;
+pub use laying::{prepare_other, publish};
