@@ -34,10 +34,10 @@ module _ (f g : ℕ) (apart : f ≢ g) (old now : Past) (before : IsBefore old n
 
 -- ---- the two files together
 
-zero_one : ◌≢◌ {A = ℕ} 0 1
+pub zero_one : ◌≢◌ {A = ℕ} 0 1
 zero_one e = absurd (omega arith)
 
-one_zero : ◌≢◌ {A = ℕ} 1 0
+pub one_zero : ◌≢◌ {A = ℕ} 1 0
 one_zero e = absurd (omega arith)
 
 module _ (held : StoreFrame) (old now : Past) (rests : Rests held old) (before : IsBefore old now) (P : StoreFrame → Type 0) (Q : List ℕ → Type 0) where
@@ -94,7 +94,7 @@ module _ (held : StoreFrame) (old : Past) (rests : Rests held old) where
   settled_of (suc (suc g)) low = absurd (omega arith)
 
 -- as it reads
-as_read : (f : ℕ) (bytes : List ℕ) (now : Past) → IsSettled f bytes now → IsSettled f (content_of now f) now
+pub as_read : (f : ℕ) (bytes : List ℕ) (now : Past) → IsSettled f bytes now → IsSettled f (content_of now f) now
 as_read f bytes now settled = record { content = refl; only = λ file image. settled.only file image ∙ sym settled.content }
 
 -- both files are settled

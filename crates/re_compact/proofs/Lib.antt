@@ -4,3 +4,5 @@ pub mod Laid
 pub mod Steps
 pub mod Stores
 pub mod Standing
+pub mod Opening
+pub mod Counted

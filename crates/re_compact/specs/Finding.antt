@@ -1,7 +1,7 @@
 -- What is found in the two files of a device, and what finding it does there.
 -- Read against: where both files are blank the journal stands on them, with file 1 as its own; a stop behind the two syncs leaves both
 -- files as they read before.
-use Rattle.std.specs.Prelude.{◌≡◌, ◌⊎◌, ℕ, true, List, [], ◌∷◌, length, Option, None, Result, Ok, Err}
+use Rattle.std.specs.Prelude.{◌≡◌, ◌⊎◌, ℕ, Bool, true, List, [], ◌∷◌, length, Option, None, Result, Ok, Err}
 use Rattle.re_outside.specs.Frame.{StoreFrame, Blank as BlankFrame, Store as StoreOf, generation}
 use Rattle.re_outside.specs.Moment.{IsKept, IsSettled, OnlyDeviceMoves}
 use Rattle.re_outside.specs.Outside.{Rose}
@@ -9,9 +9,10 @@ use Rattle.re_outside.specs.Plan.{StopsAt}
 use Rattle.re_outside.specs.Trace.{Past, with_steps, content_of}
 use Rattle.re_outside.specs.declared.step.Step.{Step}
 use Rattle.re_outside.specs.declared.step.Step.TheVariants as steps
+use Rattle.re_journal.specs.Journals.{other_file}
 use Rattle.re_journal.specs.Scans.{all_bytes, FailsReading}
 use Rattle.re_journal.specs.declared.journal.Journal.{Journal}
-use Rattle.re_compact.specs.Choices.{IsChoice}
+use Rattle.re_compact.specs.Choices.{IsChoice, IsCounting}
 use Rattle.re_compact.specs.declared.choice.Choice.{Choice}
 use Rattle.re_compact.specs.declared.fault.OpenFault.{OpenFault}
 use Rattle.re_compact.specs.declared.fault.OpenFault.TheVariants.{Memory, Disk, BadStore, OtherProgram}
@@ -68,10 +69,38 @@ pub record KeepsFiles (old now : Past) : Type 0 where
   pub second : IsKept old.device 1 old now
   pub others : OnlyDeviceMoves old now
 
--- both files are settled, have these lengths, and are this
-pub record IsOpened (choice : Choice) (first second : ℕ) (now : Past) : Type 0 where
-  pub first_settled : IsSettled 0 (content_of now 0) now
-  pub second_settled : IsSettled 1 (content_of now 1) now
+-- both files are settled
+pub record AreSettled (now : Past) : Type 0 where
+  pub first : IsSettled 0 (content_of now 0) now
+  pub second : IsSettled 1 (content_of now 1) now
+
+-- the files have these lengths, and their heads say this
+pub record IsMeasured (choice : Choice) (first second : ℕ) (now : Past) : Type 0 where
   pub first_length : first ≡ length (content_of now 0)
   pub second_length : second ≡ length (content_of now 1)
   pub chosen : IsChoice choice (content_of now 0) (content_of now 1)
+
+-- this file counts with this generation, and the other one has so many bytes and is blank or not
+pub record CountsIn (file g other_length : ℕ) (other_blank : Bool) (now : Past) : Type 0 where
+  pub settled : AreSettled now
+  pub size : other_length ≡ length (content_of now (other_file file))
+  pub counting : IsCounting (content_of now file) (content_of now (other_file file)) g other_blank
+
+-- no step was made, but where a call that asked for a length or for bytes failed
+abbrev pub HasReadSteps : {T : Type 0} → Past → Past → Result T OpenFault → Type 0
+HasReadSteps old new (Ok x) = new ≡ old
+HasReadSteps old new (Err Memory) = new ≡ old
+HasReadSteps old new (Err Disk) = (file : ℕ) × FailsReading file old new
+HasReadSteps old new (Err (BadStore file at)) = new ≡ old
+HasReadSteps old new (Err OtherProgram) = new ≡ old
+
+-- the journal of two blank files of these lengths
+pub record IsBlankJournal (first second : ℕ) (journal : Journal) : Type 0 where
+  pub file : journal.file ≡ 1
+  pub start : journal.start ≡ 0
+  pub gate : journal.gate ≡ 0
+  pub own_length : journal.length ≡ second
+  pub calls : journal.calls ≡ 0
+  pub other_length : journal.other_length ≡ first
+  pub other_blank : journal.other_blank ≡ true
+  pub running : journal.stopped ≡ None

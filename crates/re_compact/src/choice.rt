@@ -12,12 +12,10 @@ pub enum Choice {
     Blank,
     /// A length or a generation is refused, in this file at this place.
     Bad { file: u8, at: u64 },
-    /// This file counts, with this generation; the other one is blank, or of a lesser generation.
-    Counting {
-        file: u8,
-        generation: u64,
-        other_blank: bool,
-    },
+    /// File 0 counts, with this generation; file 1 is blank, or of a lesser one.
+    First { generation: u64, other_blank: bool },
+    /// File 1 counts, with this generation; file 0 is blank, or of a lesser one.
+    Second { generation: u64, other_blank: bool },
 }
 
 /// Which file counts: the one of greater generation. File 0 is tested first, and two equal generations are refused in file 1.
@@ -38,8 +36,7 @@ fn beside_blank(second: Head) -> Choice
     match second {
         Head::Bad { at } => Choice::Bad { file: 1, at },
         Head::Blank => Choice::Blank,
-        Head::Numbered { generation } => Choice::Counting {
-            file: 1,
+        Head::Numbered { generation } => Choice::Second {
             generation,
             other_blank: true,
         },
@@ -52,8 +49,7 @@ fn beside_numbered(first: u64, second: Head) -> Choice
 {
     match second {
         Head::Bad { at } => Choice::Bad { file: 1, at },
-        Head::Blank => Choice::Counting {
-            file: 0,
+        Head::Blank => Choice::First {
             generation: first,
             other_blank: true,
         },
@@ -69,14 +65,12 @@ fn greater(first: u64, second: u64) -> Choice
         return Choice::Bad { file: 1, at: 5 };
     }
     if first > second {
-        return Choice::Counting {
-            file: 0,
+        return Choice::First {
             generation: first,
             other_blank: false,
         };
     }
-    Choice::Counting {
-        file: 1,
+    Choice::Second {
         generation: second,
         other_blank: false,
     }
