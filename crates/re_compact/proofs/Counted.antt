@@ -1,9 +1,9 @@
 -- What the file that counts says of the two.
-use Rattle.std.specs.Prelude.{◌||◌, ◌==◌, not, nat_le}
+use Rattle.std.specs.Prelude.{◌||◌, ◌==◌, not}
 use Rattle.std.specs.Int.{w32, w64, to_be_bytes}
-use Rattle.std.proofs.Common.{◌≡◌, ◌⊎◌, inl, inr, ℕ, zero, suc, ◌+◌, ◌-◌, ◌<◌, ◌≤◌, Bool, true, false, List, [], ◌∷◌, ◌++◌, length, slice_index, refl, sym, ◌∙◌, ap, subst, arith, length-append}
+use Rattle.std.proofs.Common.{◌≡◌, inl, inr, ℕ, zero, suc, ◌<◌, ◌≤◌, Bool, false, List, [], ◌∷◌, ◌++◌, length, slice_index, refl, sym, ◌∙◌, ap, subst, arith, length-append}
 use Rattle.std.proofs.lemmas.Bool.Decides.{leb_tells}
-use Rattle.re_outside.specs.Frame.{StoreFrame, Bad, Store, HasStoreFrame, HasFrame, HasBadFrame, IsBadHead, HasGeneration, generation, is_blank}
+use Rattle.re_outside.specs.Frame.{Bad, Store, HasStoreFrame, HasFrame, HasBadFrame, HasGeneration, generation, is_blank}
 use Rattle.re_outside.specs.Moment.{IsSettled}
 use Rattle.re_outside.specs.Trace.{Past, content_of}
 use Rattle.re_outside.proofs.Readings.{read_file}
@@ -31,9 +31,9 @@ refused_behind file g place has (inr bad) = bad
 refused_behind file g place has (inl bad) = elim (read_file file g has) [
   | inl (s, bs, frame) ↦ absurd (let same = one_store file [] (Bad 0 place) (Store 0 s bs) (inl (inl (refl, bad))) (file, inl (refl, refl, g, has, inl refl), frame) in cc)
   | inr (other, worse) ↦
-    let same : Bad 0 place ≡ Bad 0 other = one_store file [] (Bad 0 place) (Bad 0 other) (inl (inl (refl, bad))) (inr (file, inl (refl, refl, g, has, inl refl), worse)) in
-    let at : other ≡ place = cc in
-    subst (HasBadFrame file) at worse
+      let same : Bad 0 place ≡ Bad 0 other = one_store file [] (Bad 0 place) (Bad 0 other) (inl (inl (refl, bad))) (inr (file, inl (refl, refl, g, has, inl refl), worse)) in
+      let at : other ≡ place = cc in
+      subst (HasBadFrame file) at worse
 ]
 
 settled_either : (f : ℕ) → f < 2 → (now : Past) → AreSettled now → IsSettled f (content_of now f) now

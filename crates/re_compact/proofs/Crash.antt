@@ -1,10 +1,9 @@
 -- What a stop leaves of the two files while a snapshot is laid and its gate opened.
-use Rattle.std.specs.Prelude.{◌-◌}
-use Rattle.std.proofs.Common.{◌≡◌, ◌≢◌, ◌⊎◌, inl, inr, ℕ, zero, suc, ◌+◌, ◌<◌, true, List, [], ◌∷◌, ◌++◌, length, refl, sym, ◌∙◌, ap, subst, arith}
-use Rattle.re_outside.specs.Frame.{StoreFrame, Blank, Bad, Store, HasStoreFrame, IsOlder, generation, framed, is_blank}
+use Rattle.std.proofs.Common.{◌≡◌, ◌≢◌, inl, inr, ℕ, zero, suc, ◌<◌, true, List, [], ◌∷◌, ◌++◌, length, refl, sym, ◌∙◌, ap, subst, arith}
+use Rattle.re_outside.specs.Frame.{StoreFrame, Store, HasStoreFrame, IsOlder, framed, is_blank}
 use Rattle.re_outside.specs.declared.step.Step.{Step}
 use Rattle.re_outside.specs.Moment.{Throughout, Leaves, IsKept, IsSettled, OnlyMoves}
-use Rattle.re_outside.specs.Plan.{IsSafe, FileChange, KeepSafe, StopsAt, synced_steps, all_changed}
+use Rattle.re_outside.specs.Plan.{IsSafe, StopsAt}
 use Rattle.re_outside.specs.Trace.{Past, IsBefore, with_steps, content_at, content_of, IsCrashImageAt, IsCrashImageOf}
 use Rattle.re_outside.proofs.Elsewhere.{device_moves}
 use Rattle.re_outside.proofs.Moments.{at_end}
@@ -129,7 +128,7 @@ module _ (held : StoreFrame) (old : Past) (rests : Rests held old) (f : ℕ) (lo
   pub prepared_settled : (new : Past) → new ≡ with_steps old plan → IsSettled (other_file f) (0 ∷ framed) new
   prepared_settled new is =
       subst (IsSettled (other_file f) (0 ∷ framed)) (sym is) (subst (λ l. IsSettled (other_file f) l (with_steps old plan)) (laid other framed)
-          (changes_settle (other_file f) (laying (is_blank other) (length other) framed) other old (settled_of held old rests (other_file f) other_low)))
+      (changes_settle (other_file f) (laying (is_blank other) (length other) framed) other old (settled_of held old rests (other_file f) other_low)))
 
 pub zero_blank : (framed : List ℕ) → is_blank (0 ∷ framed) ≡ true
 zero_blank framed = shut_blank (0 ∷ framed) (λ (e : ◌≡◌ {A = ℕ} 0 1). absurd (omega arith))
@@ -140,11 +139,11 @@ pub prepared_rests : (held : StoreFrame) (old new : Past) → Rests held old →
 prepared_rests held old new rests zero low here framed is =
     let leaves = at_end old new _ (ran_safe _ _ old new (prepare_leaves held old rests 0 low here framed) is) in
     resting held (content_of old 0) (0 ∷ framed) new (own_settled 0 1 zero_one old new (_, is) leaves.others (content_of old 0) rests.first) (prepared_settled held old rests 0 low here framed new is)
-        (second_emptied (content_of old 0) (content_of old 1) (0 ∷ framed) held rests.frame here (zero_blank framed))
+    (second_emptied (content_of old 0) (content_of old 1) (0 ∷ framed) held rests.frame here (zero_blank framed))
 prepared_rests held old new rests (suc zero) low here framed is =
     let leaves = at_end old new _ (ran_safe _ _ old new (prepare_leaves held old rests 1 low here framed) is) in
     resting held (0 ∷ framed) (content_of old 1) new (prepared_settled held old rests 1 low here framed new is) (own_settled 1 0 one_zero old new (_, is) leaves.others (content_of old 1) rests.second)
-        (first_emptied (content_of old 0) (content_of old 1) (0 ∷ framed) held rests.frame here (zero_blank framed))
+    (first_emptied (content_of old 0) (content_of old 1) (0 ∷ framed) held rests.frame here (zero_blank framed))
 prepared_rests held old new rests (suc (suc f)) low here framed is = absurd (omega arith)
 
 -- ---- the gate is opened
@@ -185,7 +184,7 @@ module _ (held : StoreFrame) (old : Past) (rests : Rests held old) (snapshot : L
     pub published_settled : (new : Past) → new ≡ with_steps old (publish_steps old.device (other_file f)) → IsSettled (other_file f) (1 ∷ tail) new
     published_settled new done =
         subst (IsSettled (other_file f) (1 ∷ tail)) (sym done) (subst (λ l. IsSettled (other_file f) l (with_steps old (publish_steps old.device (other_file f)))) (opened tail)
-            (changes_settle (other_file f) opening (0 ∷ tail) old prepared))
+        (changes_settle (other_file f) opening (0 ∷ tail) old prepared))
 
 -- both files are settled after it, and hold the new store
 pub published_rests : (held : StoreFrame) (old new : Past) → Rests held old → (snapshot : List ℕ) (g : ℕ) → IsSnapshot snapshot g → (f : ℕ) → f < 2 → IsIn f held → IsOlder (content_of old f) g → IsSettled (other_file f) (0 ∷ frame_of snapshot) old
@@ -193,9 +192,9 @@ pub published_rests : (held : StoreFrame) (old new : Past) → Rests held old �
 published_rests held old new rests snapshot g is zero low here older prepared done =
     let leaves = at_end old new _ (ran_safe _ _ old new (publish_leaves held old rests snapshot g is 0 low here older prepared) done) in
     resting (Store 1 snapshot []) (content_of old 0) (1 ∷ (framed snapshot ++ 0 ∷ [])) new (own_settled 0 1 zero_one old new (_, done) leaves.others (content_of old 0) rests.first)
-        (published_settled held old rests snapshot g is 0 low here older prepared new done) (second_published (content_of old 0) snapshot g is older)
+    (published_settled held old rests snapshot g is 0 low here older prepared new done) (second_published (content_of old 0) snapshot g is older)
 published_rests held old new rests snapshot g is (suc zero) low here older prepared done =
     let leaves = at_end old new _ (ran_safe _ _ old new (publish_leaves held old rests snapshot g is 1 low here older prepared) done) in
     resting (Store 0 snapshot []) (1 ∷ (framed snapshot ++ 0 ∷ [])) (content_of old 1) new (published_settled held old rests snapshot g is 1 low here older prepared new done)
-        (own_settled 1 0 one_zero old new (_, done) leaves.others (content_of old 1) rests.second) (first_published (content_of old 1) snapshot g is older)
+    (own_settled 1 0 one_zero old new (_, done) leaves.others (content_of old 1) rests.second) (first_published (content_of old 1) snapshot g is older)
 published_rests held old new rests snapshot g is (suc (suc f)) low here older prepared done = absurd (omega arith)

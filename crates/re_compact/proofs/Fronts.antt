@@ -1,14 +1,12 @@
 -- What the first bytes of a file say of it.
 use Rattle.std.specs.Prelude.{◌||◌, ◌==◌, not}
 use Rattle.std.specs.Int.{w32, w64, to_be_bytes, from_be_bytes}
-use Rattle.std.proofs.Common.{◌≡◌, ◌≢◌, ◌⊎◌, inl, inr, ℕ, zero, suc, ◌+◌, ◌^◌, ◌<◌, ◌≤◌, Bool, true, false, List, [], ◌∷◌, ◌++◌, length, slice_index, get_or, take, drop, refl, sym, ◌∙◌, ap, subst, arith, length-append, length-take, length-drop, get_or-take, get_or-drop, take-append-drop, append_assoc}
+use Rattle.std.proofs.Common.{◌≡◌, ◌⊎◌, inl, inr, ℕ, suc, ◌+◌, ◌^◌, ◌<◌, ◌≤◌, false, List, [], ◌∷◌, ◌++◌, length, slice_index, get_or, take, drop, refl, sym, ◌∙◌, ap, subst, arith, length-append, length-take, length-drop, get_or-take, get_or-drop, take-append-drop, append_assoc}
 use Rattle.std.proofs.lemmas.List.{get_or_past, drop_all, take-append-le}
 use Rattle.std.proofs.lemmas.Bool.Decides.{leb_tells}
-use Rattle.std.proofs.lemmas.Bool.{cases_eq}
 use Rattle.std.proofs.lemmas.Nat.{from_be_bytes-to_be_bytes_4, from_be_bytes-to_be_bytes_8, be_bytes_4, be_bytes_8}
 use Rattle.std.proofs.Math.Seq.{take-append_seam}
 use Rattle.re_outside.specs.Frame.{IsSnapshotLength, IsGeneration, HasNoLength, HasNoGeneration, is_blank, IsBadHead, HasGeneration}
-use Rattle.re_compact.proofs.Laid.{short_blank, shut_blank, full_head}
 
 low_length : (n : ℕ) → IsSnapshotLength n → n < 2 ^ 32
 low_length n fits = omega (arith, fits.1)

@@ -1,12 +1,12 @@
 -- What a stop leaves of the file into which a snapshot is laid.
 use Rattle.std.specs.Prelude.{nat_le, ◌||◌, ◌==◌, not, if◌then◌else◌}
-use Rattle.std.proofs.Common.{◌≡◌, ◌≢◌, ◌⊎◌, inl, inr, ℕ, suc, ◌+◌, ◌<◌, ◌≤◌, Bool, true, false, List, [], ◌∷◌, ◌++◌, length, slice_index, get_or, take, drop, get_or-take, length-take, refl, sym, ◌∙◌, ap, subst, arith}
+use Rattle.std.proofs.Common.{◌≡◌, ◌≢◌, ◌⊎◌, inl, inr, ℕ, suc, ◌+◌, ◌<◌, ◌≤◌, Bool, true, false, List, [], ◌∷◌, ◌++◌, length, slice_index, take, drop, get_or-take, length-take, refl, sym, ◌∙◌, ap, subst, arith}
 use Rattle.std.proofs.lemmas.Bool.{cases_eq}
 use Rattle.std.proofs.lemmas.Bool.Decides.{leb_tells, eqb_tells, nat_tests}
 use Rattle.std.proofs.lemmas.List.{ext_get_or, append-nil, drop_all}
 use Rattle.re_outside.specs.Frame.{is_blank}
-use Rattle.re_outside.specs.Image.{IsTorn, IsCutShort, written, is_in_write}
-use Rattle.re_outside.specs.Plan.{FileChange, WriteAt, CutAt, KeepSafe, all_changed, IsPartlyChanged}
+use Rattle.re_outside.specs.Image.{IsTorn, written, is_in_write}
+use Rattle.re_outside.specs.Plan.{WriteAt, CutAt, KeepSafe, all_changed}
 use Rattle.re_outside.proofs.Images.{written_inside}
 use Rattle.re_outside.proofs.Honest.{written_torn}
 use Rattle.re_compact.specs.Laying.{laying, opening}
@@ -32,10 +32,13 @@ shut_blank file shut = elim (eqb_tells (slice_index file 0) 1) [
 pub full_head : (file : List ℕ) → is_blank file ≡ false → (1 < length file) × (slice_index file 0 ≡ 1)
 full_head file full = elim (leb_tells (length file) 1) [
   | inl short ↦ absurd (let blank = short_blank file short.1 in cc)
-  | inr long ↦ (long.1, (elim (cases_eq (slice_index file 0) 1) [
-    | inl same ↦ same
-    | inr shut ↦ absurd (let blank = shut_blank file shut in cc)
-  ]))
+  | inr long ↦ (
+    long.1,
+    (elim (cases_eq (slice_index file 0) 1) [
+      | inl same ↦ same
+      | inr shut ↦ absurd (let blank = shut_blank file shut in cc)
+    ]),
+  )
 ]
 
 -- what is blank has at most one byte, or doesn't begin with 1
@@ -109,10 +112,10 @@ emptying framed tail x is_open = (
     by_gate new is (inr shut) = inr (shut_blank new shut)
 
 is_short : (file : List ℕ) → nat_le (length file) 1 ≡ true → length file ≤ 1
-is_short file e = elim (leb_tells (length file) 1) [ | inl short ↦ short.1 | inr long ↦ absurd (let other = long.0 in cc) ]
+is_short file e = elim (leb_tells (length file) 1) [ inl short ↦ short.1 | inr long ↦ absurd (let other = long.0 in cc) ]
 
 is_long : (file : List ℕ) → nat_le (length file) 1 ≡ false → 1 < length file
-is_long file e = elim (leb_tells (length file) 1) [ | inl short ↦ absurd (let other = short.0 in cc) | inr long ↦ long.1 ]
+is_long file e = elim (leb_tells (length file) 1) [ inl short ↦ absurd (let other = short.0 in cc) | inr long ↦ long.1 ]
 
 lay_cases : (old framed : List ℕ) (blank short : Bool) → is_blank old ≡ blank → nat_le (length old) 1 ≡ short
     → KeepSafe (IsSameOrBlank old) old ((if blank then [] else WriteAt 0 (0 ∷ []) ∷ []) ++ (if short then [] else CutAt 1 ∷ []) ++ (WriteAt 0 (0 ∷ []) ∷ WriteAt 1 framed ∷ []))

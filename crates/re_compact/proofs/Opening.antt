@@ -1,24 +1,22 @@
 -- What a stop leaves of two files while they are opened.
 use Rattle.std.specs.Prelude.{◌&&◌, ◌==◌, not, if◌then◌else◌, Result, Ok, Err, IfOk}
-use Rattle.std.specs.List.{filter}
-use Rattle.std.proofs.Common.{◌≡◌, ◌≢◌, ◌⊎◌, inl, inr, ℕ, ◌<◌, Bool, true, false, List, [], ◌∷◌, ◌++◌, refl, sym, ◌∙◌, ap, subst, arith}
+use Rattle.std.proofs.Common.{◌≡◌, inl, inr, ℕ, true, [], ◌∷◌, ◌++◌, refl, sym, ◌∙◌, ap, subst, arith}
 use Rattle.std.proofs.lemmas.Bool.Decides.{nat_tests}
 use Rattle.std.proofs.lemmas.List.{append-nil}
 use Rattle.std.proofs.lemmas.List.Elements.{filter-append}
 use Rattle.re_outside.specs.Listed.{plain}
 use Rattle.re_outside.specs.FileAct.{SyncFailed}
-use Rattle.re_outside.specs.Image.{IsUnchanged}
-use Rattle.re_outside.specs.Moment.{Throughout, Changes, IsKept, IsSettled, OnlyMoves, OnlyDeviceMoves}
-use Rattle.re_outside.specs.Plan.{FailsTo, FailsOf, IsSafe, StopsAt}
+use Rattle.re_outside.specs.Moment.{Throughout, IsKept, IsSettled, OnlyMoves}
+use Rattle.re_outside.specs.Plan.{FailsTo, IsSafe}
 use Rattle.re_outside.specs.Trace.{Past, IsBefore, with_steps, is_of, elsewhere, elsewhere_on, content_at, content_of, IsCrashImageAt, IsCrashImageOf}
 use Rattle.re_outside.specs.declared.step.Step.{Step}
 use Rattle.re_outside.specs.declared.step.Step.TheVariants as steps
 use Rattle.re_outside.specs.declared.step.Call.TheVariants as calls
 use Rattle.re_outside.proofs.Calls.{failed_sync_changes}
 use Rattle.re_outside.proofs.Elsewhere.{device_moves, kept_by_size, kept_by_fetch}
-use Rattle.re_outside.proofs.Moments.{goes_nothing, before_refl, join, no_step, one_step}
+use Rattle.re_outside.proofs.Moments.{goes_nothing, join, no_step, one_step}
 use Rattle.re_outside.proofs.Safe.{ran_safe, stops_safe}
-use Rattle.re_outside.proofs.Steps.{kept, same_device, sync_settles, only_moves, is_synced, is_failed, reads_more}
+use Rattle.re_outside.proofs.Steps.{kept, sync_settles, only_moves, is_synced, is_failed, reads_more}
 use Rattle.re_journal.specs.Scans.{FailsReading}
 use Rattle.re_compact.specs.declared.fault.OpenFault.{OpenFault}
 use Rattle.re_compact.specs.declared.fault.OpenFault.TheVariants.{Memory, Disk, BadStore, OtherProgram}

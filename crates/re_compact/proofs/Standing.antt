@@ -1,21 +1,21 @@
 -- Where a journal stands while a snapshot is laid and its gate opened.
-use Rattle.std.specs.Prelude.{◌==◌, ◌||◌, not, nat_le}
+use Rattle.std.specs.Prelude.{◌==◌, ◌||◌, not}
 use Rattle.std.specs.List.{flat_map}
-use Rattle.std.proofs.Common.{◌≡◌, ◌≢◌, ◌⊎◌, inl, inr, ℕ, zero, suc, ◌+◌, ◌-◌, ◌<◌, ◌≤◌, Bool, true, false, List, [], ◌∷◌, ◌++◌, length, slice_index, Option, Some, None, refl, sym, ◌∙◌, ap, subst, arith, length-append, eq-eqb}
+use Rattle.std.proofs.Common.{◌≡◌, ◌≢◌, inl, inr, ℕ, ◌+◌, ◌<◌, ◌≤◌, true, false, List, [], ◌∷◌, ◌++◌, length, slice_index, Option, Some, None, refl, sym, ◌∙◌, ap, subst, arith, length-append}
 use Rattle.std.proofs.lemmas.Bool.Decides.{eqb_tells, leb_tells}
-use Rattle.re_outside.specs.Frame.{StoreFrame, Blank, Bad, Store, HasStoreFrame, HasFrame, IsOlder, opened, framed, front, is_blank}
-use Rattle.re_outside.specs.Moment.{Throughout, Leaves, IsSettled, OnlyMoves}
+use Rattle.re_outside.specs.Frame.{StoreFrame, Blank, Bad, Store, HasStoreFrame, HasFrame, opened, framed, is_blank}
+use Rattle.re_outside.specs.Moment.{Throughout, IsSettled}
 use Rattle.re_outside.specs.Plan.{StopsAt}
-use Rattle.re_outside.specs.Trace.{Past, IsBefore, with_steps, content_of, IsCrashImageOf}
+use Rattle.re_outside.specs.Trace.{Past, with_steps, content_of}
 use Rattle.re_outside.specs.declared.step.Step.{Step}
-use Rattle.re_outside.proofs.Moments.{at_end, no_step, before_refl}
+use Rattle.re_outside.proofs.Moments.{at_end, no_step}
 use Rattle.re_outside.proofs.Safe.{ran_safe}
 use Rattle.re_journal.specs.Commits.{StopsJournal}
-use Rattle.re_journal.specs.Journals.{other_file, frame_of, KnowsFiles, HasGates, StandsOn, StandsOnBlank}
+use Rattle.re_journal.specs.Journals.{other_file, frame_of, KnowsFiles}
 use Rattle.re_journal.specs.declared.journal.Journal.{Journal}
-use Rattle.re_compact.specs.Laying.{prepare_steps, publish_steps, IsSnapshot}
-use Rattle.re_compact.specs.Pair.{IsIn, Holds, Rests, StandsOnFrame, StandsIn, IsPrepared, MayReplace, IsOldOrNew, TurnsOver}
-use Rattle.re_compact.proofs.Crash.{own_content, prepare_leaves, prepared_throughout, prepare_stopped_throughout, prepared_settled, prepared_rests, publish_leaves, published_throughout, publish_stopped_throughout, published_settled, published_rests, settled_of, zero_blank, resting}
+use Rattle.re_compact.specs.Laying.{prepare_steps, publish_steps}
+use Rattle.re_compact.specs.Pair.{Holds, Rests, StandsIn, IsPrepared, MayReplace, IsOldOrNew, TurnsOver}
+use Rattle.re_compact.proofs.Crash.{own_content, prepare_leaves, prepared_throughout, prepare_stopped_throughout, prepared_settled, prepared_rests, publish_leaves, published_throughout, publish_stopped_throughout, published_settled, published_rests, settled_of, zero_blank}
 use Rattle.re_compact.proofs.Stores.{has_frame}
 
 -- ---- what the journal knows

@@ -1,7 +1,7 @@
 -- The calls of a laying, one part behind the other.
 use Rattle.std.specs.Prelude.{nat_le, if◌then◌else◌, min, Result, Ok, Err, OnErr}
-use Rattle.std.proofs.Common.{◌≡◌, inl, inr, ℕ, ◌+◌, ◌-◌, ◌^◌, ◌<◌, ◌≤◌, Bool, true, false, List, [], ◌∷◌, ◌++◌, Option, Some, None, refl, sym, ◌∙◌, ap, subst, arith, append_assoc}
-use Rattle.re_outside.specs.Plan.{WriteAt, CutAt, synced_steps, FailsTo}
+use Rattle.std.proofs.Common.{◌≡◌, inl, inr, ℕ, ◌+◌, ◌-◌, ◌^◌, ◌≤◌, Bool, true, false, List, [], ◌∷◌, ◌++◌, Option, Some, None, refl, sym, ◌∙◌, ap, subst, arith, append_assoc}
+use Rattle.re_outside.specs.Plan.{WriteAt, CutAt, synced_steps}
 use Rattle.re_outside.specs.Listed.{plain}
 use Rattle.re_outside.specs.Trace.{Past, with_steps}
 use Rattle.re_outside.specs.declared.step.Step.{Step}
@@ -9,7 +9,7 @@ use Rattle.re_outside.specs.declared.step.Step.TheVariants as steps
 use Rattle.re_outside.proofs.Moments.{goes_nothing}
 use Rattle.re_journal.specs.Commits.{StopsInTurn, IsStopOf}
 use Rattle.re_journal.specs.Journals.{calls_after}
-use Rattle.re_compact.specs.Laying.{prepare_steps, laying_calls, shut_steps, trim_steps, frame_steps, two_unless}
+use Rattle.re_compact.specs.Laying.{prepare_steps, shut_steps, trim_steps, frame_steps, two_unless}
 
 pub then_steps : (past : Past) (a b : List Step) → with_steps (with_steps past a) b ≡ with_steps past (a ++ b)
 then_steps past a b = λ i. record { device = past.device; start = past.start; trace = append_assoc past.trace a b i }
@@ -47,7 +47,7 @@ in_front (s ∷ a) b calls stopped old new (inr there) = inr (in_front a b (call
 behind_two : (s t : Step) (rest : List Step) (calls : ℕ) (stopped : Option ℕ) (old new : Past) → StopsInTurn rest (calls_after 2 calls) stopped (with_steps old (s ∷ t ∷ [])) new → StopsInTurn (s ∷ t ∷ rest) calls stopped old new
 behind_two s t rest calls stopped old new stops =
     inr (inr (subst (λ p. StopsInTurn rest (calls_after 1 (calls_after 1 calls)) stopped p new) (sym (then_steps old (s ∷ []) (t ∷ [])))
-        (subst (λ n. StopsInTurn rest n stopped (with_steps old (s ∷ t ∷ [])) new) (omega arith) stops)))
+    (subst (λ n. StopsInTurn rest n stopped (with_steps old (s ∷ t ∷ [])) new) (omega arith) stops)))
 
 -- a call failed behind one part, or behind two
 module _ (d g : ℕ) (stopped : Option ℕ) (new : Past) where
@@ -75,7 +75,7 @@ module _ (g : ℕ) (blank : Bool) (size : ℕ) (framed : List ℕ) (calls : ℕ)
       (subst (λ n. StopsInTurn (trim_steps mid.device g n) count stopped mid new) same_size
       (subst (λ n. StopsInTurn (trim_steps mid.device n more) count stopped mid new) same_file stops))) in
       whole_plan (behind_shut old.device g stopped new blank (trim_steps old.device g size ++ frame_steps old.device g framed) calls old
-          (in_front (trim_steps old.device g size) (frame_steps old.device g framed) (two_unless blank calls) stopped (with_steps old (shut_steps old.device g blank)) new here))
+      (in_front (trim_steps old.device g size) (frame_steps old.device g framed) (two_unless blank calls) stopped (with_steps old (shut_steps old.device g blank)) new here))
 
   pub frame_stops : (mid last : Past) (h more k count : ℕ) → h ≡ g → more ≡ size → k ≡ g → count ≡ two_unless (nat_le size 1) (two_unless blank calls) → mid ≡ with_steps old (shut_steps old.device g blank)
       → last ≡ with_steps mid (trim_steps mid.device h more) → StopsInTurn (frame_steps last.device k framed) count stopped last new → StopsInTurn (prepare_steps old.device g blank size framed) calls stopped old new
@@ -88,7 +88,7 @@ module _ (g : ℕ) (blank : Bool) (size : ℕ) (framed : List ℕ) (calls : ℕ)
       (subst (λ n. StopsInTurn (frame_steps last.device g framed) n stopped last new) counted
       (subst (λ n. StopsInTurn (frame_steps last.device n framed) count stopped last new) file_too stops)) in
       whole_plan (behind_shut old.device g stopped new blank (trim_steps old.device g size ++ frame_steps old.device g framed) calls old
-          (behind_trim old.device g stopped new size (frame_steps old.device g framed) (two_unless blank calls) first here))
+      (behind_trim old.device g stopped new size (frame_steps old.device g framed) (two_unless blank calls) first here))
 
 -- ---- the number of a call that failed
 

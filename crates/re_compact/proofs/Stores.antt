@@ -1,12 +1,10 @@
 -- What two files hold when one of them is emptied, or gets a snapshot of a later generation.
 use Rattle.std.specs.Int.{w32, w64, to_be_bytes, from_be_bytes}
-use Rattle.std.specs.List.{flat_map}
-use Rattle.std.proofs.Common.{◌≡◌, ◌≢◌, ◌⊎◌, inl, inr, ℕ, ◌+◌, ◌^◌, ◌<◌, ◌≤◌, true, false, List, [], ◌∷◌, ◌++◌, length, take, drop, refl, sym, ◌∙◌, ap, subst, arith, append_assoc, take-append-drop}
+use Rattle.std.proofs.Common.{◌≡◌, inl, inr, ℕ, ◌^◌, ◌<◌, true, List, [], ◌∷◌, ◌++◌, length, take, refl, sym, ◌∙◌, ap, subst, arith, append_assoc}
 use Rattle.std.proofs.lemmas.List.{append-nil}
 use Rattle.std.proofs.lemmas.Nat.{from_be_bytes-to_be_bytes_8}
 use Rattle.std.proofs.Math.Seq.{take-append_seam}
-use Rattle.re_outside.specs.Frame.{StoreFrame, Blank, Bad, Store, HasStoreFrame, HasFrame, ReadsTo, HasGeneration, IsOlder, IsSnapshotLength, IsGeneration, generation, framed, opened, front, is_blank, Counting}
-use Rattle.re_outside.proofs.Stores.{generation_read}
+use Rattle.re_outside.specs.Frame.{StoreFrame, Blank, Bad, Store, HasStoreFrame, HasFrame, HasGeneration, IsOlder, IsGeneration, generation, framed, opened, is_blank}
 use Rattle.re_compact.specs.Pair.{IsIn}
 use Rattle.re_compact.specs.Laying.{IsSnapshot}
 

@@ -1,7 +1,7 @@
 -- What is found in the two files of a device, and what finding it does there.
 -- Read against: where both files are blank the journal stands on them, with file 1 as its own; a stop behind the two syncs leaves both
 -- files as they read before.
-use Rattle.std.specs.Prelude.{◌≡◌, ◌⊎◌, ℕ, Bool, true, List, [], ◌∷◌, length, Option, None, Result, Ok, Err}
+use Rattle.std.specs.Prelude.{◌≡◌, ◌⊎◌, ℕ, Bool, true, List, [], ◌∷◌, length, None, Result, Ok, Err}
 use Rattle.re_outside.specs.Frame.{StoreFrame, Blank as BlankFrame, Store as StoreOf, generation}
 use Rattle.re_outside.specs.Moment.{IsKept, IsSettled, OnlyDeviceMoves}
 use Rattle.re_outside.specs.Outside.{Rose}

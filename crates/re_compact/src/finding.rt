@@ -10,9 +10,9 @@ ghost use Rattle.re_compact.specs.Finding.{frame_found, journal_found, HasItsGen
 ghost use Rattle.re_compact.specs.Pair.{StandsIn};
 ghost use Rattle.re_compact.specs.declared.fault.OpenFault.TheVariants.{BadStore};
 
+use crate::OpenFault;
 use crate::choice::{Choice, choose};
 use crate::heads::read_head;
-use crate::OpenFault;
 use re_journal::{Journal, ScanFault, scan};
 use re_outside::{Bytes, Disk, Failed};
 use re_terms::Seq;
@@ -22,7 +22,9 @@ use std::alloc::Global;
 #[derive(Drop)]
 pub enum Found {
     /// Both are blank. The journal has file 1 as its own, so that a first snapshot is laid into file 0.
-    Blank { journal: Journal },
+    Blank {
+        journal: Journal,
+    },
     /// A store: the journal that stands on it, its generation, its snapshot, and its records in order.
     Store {
         journal: Journal,
@@ -103,7 +105,11 @@ fn measure<D: Disk>(disk: &mut D) -> Result<Measured, Failed>
 }
 
 /// Reads the file that counts, if one does.
-fn open_measured<D: Disk>(alloc: Global, disk: &mut D, measured: Measured) -> Result<Found, OpenFault>
+fn open_measured<D: Disk>(
+    alloc: Global,
+    disk: &mut D,
+    measured: Measured,
+) -> Result<Found, OpenFault>
     ensures stands { D.tells → AreSettled (D.past disk.old) → IsMeasured measured.choice measured.first measured.second (D.past disk.old) → IfOk result (λ found. StandsIn (journal_found found) (frame_found found) (D.past disk.old) × HasItsGeneration found) }
     ensures bad { (file at : ℕ) → D.tells → AreSettled (D.past disk.old) → IsMeasured measured.choice measured.first measured.second (D.past disk.old) → result ≡ Err (BadStore file at) → HasStoreFrame (content_of (D.past disk.old) 0) (content_of (D.past disk.old) 1) (Bad file at) }
     ensures fresh { IfOk result IsFreshlyFound }

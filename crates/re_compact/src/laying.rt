@@ -54,7 +54,11 @@ fn trim_other<D: Disk>(journal: &mut Journal, disk: &mut D) -> Result<(), Journa
 }
 
 /// Writes a closed gate to the front of the other file, and a frame behind it.
-fn write_frame<D: Disk>(journal: &mut Journal, disk: &mut D, framed: &[u8]) -> Result<(), JournalFault>
+fn write_frame<D: Disk>(
+    journal: &mut Journal,
+    disk: &mut D,
+    framed: &[u8],
+) -> Result<(), JournalFault>
     ensures done { D.tells → OnOk result (D.past disk.new ≡ with_steps (D.past disk.old) (frame_steps (D.past disk.old).device (other_file journal.old.file) framed.now)) }
     ensures failed { D.tells → OnErr result (StopsInTurn (frame_steps (D.past disk.old).device (other_file journal.old.file) framed.now) journal.old.calls journal.new.stopped (D.past disk.old) (D.past disk.new)) }
     ensures journal { OnOk result (journal.new ≡ record journal.old { calls = calls_after 4 journal.old.calls }) }
@@ -73,7 +77,11 @@ fn write_frame<D: Disk>(journal: &mut Journal, disk: &mut D, framed: &[u8]) -> R
 }
 
 /// Makes the calls that write a frame behind a closed gate of the other file.
-fn make_prepare_calls<D: Disk>(journal: &mut Journal, disk: &mut D, framed: &[u8]) -> Result<(), JournalFault>
+fn make_prepare_calls<D: Disk>(
+    journal: &mut Journal,
+    disk: &mut D,
+    framed: &[u8],
+) -> Result<(), JournalFault>
     ensures done { D.tells → OnOk result (D.past disk.new ≡ with_steps (D.past disk.old) (prepare_steps (D.past disk.old).device (other_file journal.old.file) journal.old.other_blank journal.old.other_length framed.now)) }
     ensures failed { D.tells → OnErr result (StopsInTurn (prepare_steps (D.past disk.old).device (other_file journal.old.file) journal.old.other_blank journal.old.other_length framed.now) journal.old.calls journal.new.stopped (D.past disk.old) (D.past disk.new)) }
     ensures journal { OnOk result (journal.new ≡ record journal.old { calls = calls_after (laying_calls journal.old.other_blank journal.old.other_length) journal.old.calls }) }
@@ -112,7 +120,11 @@ fn make_publish_calls<D: Disk>(journal: &mut Journal, disk: &mut D) -> Result<()
 /// its gate is shut and it is cut to one byte; then the frame is written behind a closed gate. Each change is synced before the next.
 /// It takes no memory. `Disk` comes where a call failed, and the journal has then stopped; `Stopped` where it had stopped before,
 /// with the number of that call, and then no call is made.
-pub fn prepare_other<D: Disk>(journal: &mut Journal, disk: &mut D, framed: &[u8]) -> Result<(), JournalFault>
+pub fn prepare_other<D: Disk>(
+    journal: &mut Journal,
+    disk: &mut D,
+    framed: &[u8],
+) -> Result<(), JournalFault>
     // The calls, in order, up to the first that failed.
     ensures done { D.tells → OnOk result (D.past disk.new ≡ with_steps (D.past disk.old) (prepare_steps (D.past disk.old).device (other_file journal.old.file) journal.old.other_blank journal.old.other_length framed.now)) }
     ensures failed { D.tells → result ≡ Err DiskFault → StopsJournal (prepare_steps (D.past disk.old).device (other_file journal.old.file) journal.old.other_blank journal.old.other_length framed.now) journal.old.calls journal.new.stopped (D.past disk.old) (D.past disk.new) }

@@ -1,4 +1,4 @@
-use Rattle.std.proofs.Common.{inr, refl, sym}
+use Rattle.std.proofs.Common.{inr, sym}
 use Rattle.re_compact.proofs.Counted.{generation_full}
 use Rattle.re_compact.proofs.choice.greater.Goals as goal
 

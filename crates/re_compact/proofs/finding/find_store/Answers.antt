@@ -1,9 +1,9 @@
-use Rattle.std.specs.Prelude.{Err, IfOk}
-use Rattle.std.proofs.Common.{◌≡◌, inl, inr, ℕ, refl, sym, ◌∙◌, ap, subst, rules}
+use Rattle.std.specs.Prelude.{Err}
+use Rattle.std.proofs.Common.{◌≡◌, inl, inr, ℕ, sym, ◌∙◌, subst, rules}
 use Rattle.re_outside.specs.Frame.{Bad, HasStoreFrame}
-use Rattle.re_outside.specs.Trace.{Past, content_of, with_steps}
+use Rattle.re_outside.specs.Trace.{content_of}
 use Rattle.re_journal.specs.Scans.{FailsReading}
-use Rattle.re_compact.specs.Finding.{frame_found, journal_found, HasItsGeneration, open_steps, HasOpenSteps, AreSettled, IsMeasured}
+use Rattle.re_compact.specs.Finding.{frame_found, journal_found, HasItsGeneration, HasOpenSteps, IsMeasured}
 use Rattle.re_compact.specs.Pair.{StandsIn}
 use Rattle.re_compact.specs.declared.fault.OpenFault.TheVariants.{Disk}
 use Rattle.re_compact.proofs.Opening.{each_moment, stopped_throughout, settled_opened, first_read, second_read, if_ok, then_read, moved_on}

@@ -1,4 +1,4 @@
-use Rattle.std.proofs.Common.{inl, inr, refl, subst, ◌∙◌}
+use Rattle.std.proofs.Common.{inl, inr, subst, ◌∙◌}
 use Rattle.re_journal.specs.Scans.{FailsReading}
 use Rattle.re_compact.proofs.Steps.{on_err}
 use Rattle.re_compact.proofs.finding.measure.Goals as goal

@@ -1,5 +1,5 @@
-use Rattle.std.proofs.Common.{◌≡◌, inl, ℕ, refl, sym, ◌∙◌, ap, subst}
-use Rattle.re_outside.specs.Frame.{Bad, HasStoreFrame, HasBadHead}
+use Rattle.std.proofs.Common.{◌≡◌, inl, subst}
+use Rattle.re_outside.specs.Frame.{HasBadHead}
 use Rattle.re_outside.specs.Trace.{content_of}
 use Rattle.re_compact.specs.Choices.{IsChoice}
 use Rattle.re_compact.proofs.finding.open_measured.Goals as goal

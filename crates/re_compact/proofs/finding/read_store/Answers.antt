@@ -1,5 +1,5 @@
 use Rattle.std.specs.Prelude.{Err}
-use Rattle.std.proofs.Common.{◌≡◌, ℕ, length, refl, sym, ◌∙◌, ap, subst}
+use Rattle.std.proofs.Common.{◌≡◌, length, refl, sym, ◌∙◌, ap, subst}
 use Rattle.re_outside.specs.Frame.{Bad, HasStoreFrame}
 use Rattle.re_outside.specs.Trace.{content_of}
 use Rattle.re_journal.specs.Journals.{HasGates}
@@ -17,9 +17,10 @@ returns-in-Ok-clause-stands g c = λ told counts.
     let own = generation_full (content_of now c.args.file) c.args.generation counts.counting.0 in
     let gates : HasGates c.in-Ok.scanned.journal (content_of now c.args.file) s bs = c.in-Ok.ensures.frame told own in
     let here : CountsIn c.in-Ok.scanned.journal.file c.args.generation c.args.other_length c.args.other_blank now = subst (λ f. CountsIn f c.args.generation c.args.other_length c.args.other_blank now) (sym fresh.file) counts in
-    let there : HasGates c.in-Ok.scanned.journal (content_of now c.in-Ok.scanned.journal.file) s bs = subst (λ f. HasGates c.in-Ok.scanned.journal (content_of now f) s bs) (sym fresh.file) gates in
-    (counts_stand now _ c.args.generation c.args.other_length c.args.other_blank s bs here (record { frame = there.frame; start = there.start; gate = there.gate }) (c.in-Ok.ensures.size told ∙ ap (λ f. length (content_of now f)) (sym fresh.file)) refl refl,
-    its_generation now c.args.file c.args.generation c.args.other_length c.args.other_blank s bs counts gates.frame)
+    let there : HasGates c.in-Ok.scanned.journal (content_of now c.in-Ok.scanned.journal.file) s bs = subst (λ f. HasGates c.in-Ok.scanned.journal (content_of now f) s bs) (sym fresh.file) gates in (
+      counts_stand now _ c.args.generation c.args.other_length c.args.other_blank s bs here (record { frame = there.frame; start = there.start; gate = there.gate }) (c.in-Ok.ensures.size told ∙ ap (λ f. length (content_of now f)) (sym fresh.file)) refl refl,
+      its_generation now c.args.file c.args.generation c.args.other_length c.args.other_blank s bs counts gates.frame,
+    )
 
 pub returns-in-Err-Bad-clause-bad : goal.returns-in-Err-Bad-clause-bad
 returns-in-Err-Bad-clause-bad g c = λ number at told counts is.

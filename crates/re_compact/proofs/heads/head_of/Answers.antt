@@ -1,4 +1,4 @@
-use Rattle.std.proofs.Common.{◌<◌, ◌≤◌, arith}
+use Rattle.std.proofs.Common.{arith}
 use Rattle.re_compact.proofs.Fronts.{front_cut, front_out, front_numbered}
 use Rattle.re_compact.proofs.heads.head_of.Goals as goal
 use Rattle.re_compact.proofs.heads.head_of.Goals.{then-generation-lt1-via-then-generation-lt1, then-generation-lt1-via-else-generation-lt1+then-generation}

@@ -1,5 +1,5 @@
 use Rattle.std.specs.Prelude.{nat_le, if◌then◌else◌}
-use Rattle.std.proofs.Common.{◌≡◌, ℕ, ◌+◌, ◌≤◌, Bool, true, false, refl, sym, ◌∙◌, ap, subst, arith}
+use Rattle.std.proofs.Common.{◌+◌, refl, ◌∙◌, ap, arith}
 use Rattle.re_journal.specs.Commits.{IsStopOf}
 use Rattle.re_journal.specs.Journals.{other_file}
 use Rattle.re_journal.proofs.Stopping.{stop_in_turn}

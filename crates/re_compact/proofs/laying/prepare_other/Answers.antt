@@ -1,5 +1,4 @@
-use Rattle.std.specs.Prelude.{length}
-use Rattle.std.proofs.Common.{◌≡◌, ◌∷◌, inl, refl, rules, sym, ◌∙◌, ap, subst}
+use Rattle.std.proofs.Common.{◌≡◌, ◌∷◌, refl, rules, sym, subst}
 use Rattle.re_outside.specs.Moment.{IsSettled}
 use Rattle.re_journal.specs.Journals.{other_file, frame_of}
 use Rattle.re_journal.proofs.Stopping.{stops_in_turn}
