@@ -1,0 +1,5 @@
+pub mod Choices
+pub mod Finding
+pub mod Heads
+pub mod Laying
+pub mod Pair
