@@ -1,0 +1,4 @@
+pub mod OneEntry
+pub mod Placing
+pub mod Refused
+pub mod Replayed

@@ -1,0 +1,11 @@
+//! Opening a store: the state and the entry number that the two files of a device stand for.
+#![tactic(auto)]
+
+mod entries;
+mod records;
+mod replay;
+mod stores;
+#[cfg(test)]
+mod tests;
+
+pub use stores::{StoreFault, read_store};
