@@ -41,7 +41,7 @@ one_zero e = absurd (omega arith)
 
 module _ (held : StoreFrame) (old now : Past) (rests : Rests held old) (before : IsBefore old now) (P : StoreFrame → Type 0) (Q : List ℕ → Type 0) where
   -- where file 1 alone is touched
-  second_touched : ((file : List ℕ) → Q file → (frame : StoreFrame) × HasStoreFrame (content_of old 0) file frame × P frame) → Leaves 1 Q old now → Holds P old now
+  pub second_touched : ((file : List ℕ) → Q file → (frame : StoreFrame) × HasStoreFrame (content_of old 0) file frame × P frame) → Leaves 1 Q old now → Holds P old now
   second_touched holds leaves = record {
     images = λ first second a b.
         let same : first ≡ content_of old 0 = rests.first.only first (own_image 0 1 zero_one old now before leaves.others first a) in
@@ -51,7 +51,7 @@ module _ (held : StoreFrame) (old now : Past) (rests : Rests held old) (before :
   }
 
   -- where file 0 alone is touched
-  first_touched : ((file : List ℕ) → Q file → (frame : StoreFrame) × HasStoreFrame file (content_of old 1) frame × P frame) → Leaves 0 Q old now → Holds P old now
+  pub first_touched : ((file : List ℕ) → Q file → (frame : StoreFrame) × HasStoreFrame file (content_of old 1) frame × P frame) → Leaves 0 Q old now → Holds P old now
   first_touched holds leaves = record {
     images = λ first second a b.
         let same : second ≡ content_of old 1 = rests.second.only second (own_image 1 0 one_zero old now before leaves.others second b) in

@@ -1,3 +1,4 @@
+pub mod Commits
 pub mod Crash
 pub mod Fronts
 pub mod Laid
