@@ -1,3 +1,4 @@
 pub mod Stopping
 pub mod Gates
 pub mod Committed
+pub mod Windows
