@@ -1,6 +1,6 @@
 -- The piece of a file that a reader has in hand.
 use Rattle.std.proofs.Common.{◌≡◌, ℕ, ◌+◌, ◌-◌, ◌<◌, ◌≤◌, min, List, [], ◌∷◌, ◌++◌, length, slice_index, take, drop, refl, sym, ◌∙◌, ap, subst, arith, append_assoc, length-append, length-take, get_or-take}
-use Rattle.std.proofs.lemmas.List.{drop_all, drop_more, drop-drop, take-append-drop}
+use Rattle.std.proofs.lemmas.List.{drop_all, drop_more, drop-drop, drop-take, take-take, take-append-drop}
 
 used_up : (piece : List ℕ) (used filled : ℕ) → filled ≤ used → drop used (take filled piece) ≡ []
 used_up piece used filled past = drop_all used (take filled piece) (omega (arith, length-take filled piece))
@@ -35,3 +35,11 @@ first_bytes piece content place used filled n within =
     let same : place + (filled - used) ≡ place + n + (filled - (used + n)) = omega arith in
     (λ i. sym (take-append-drop n window) i ++ drop (same i) content)
     ∙ (append_assoc (take n window) (drop n window) _ ∙ ap (λ (l : List ℕ). take n window ++ (l ++ drop (place + n + (filled - (used + n))) content)) (drop-drop n used (take filled piece)))
+
+pub front_of_piece : (piece : List ℕ) (used filled n : ℕ) → used + n ≤ filled → take n (drop used (take filled piece)) ≡ take ((used + n) - used) (drop used piece)
+front_of_piece piece used filled n within =
+    let rest : filled ≡ used + (filled - used) = omega arith in
+    let some : n ≡ (used + n) - used = omega arith in
+    ap (λ k. take n (drop used (take k piece))) rest
+    ∙ (ap (take n) (drop-take used (filled - used) piece)
+    ∙ (take-take n (filled - used) (drop used piece) (omega arith) ∙ ap (λ k. take k (drop used piece)) some))

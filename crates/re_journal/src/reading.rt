@@ -124,11 +124,11 @@ impl Reader {
         ensures device { (D.past disk.new).device ≡ (D.past disk.old).device }
         ensures rest { D.rest disk.new ≡ D.rest disk.old }
     {
-        let size = size as usize;
-        let mut body = Vec::with_capacity(alloc, size)?;
-        while body.len() < size {
+        let wanted = size as usize;
+        let mut body = Vec::with_capacity(alloc, wanted)?;
+        while body.len() < wanted {
             let before = body.len();
-            self.take(disk, &mut body, size)?;
+            self.take(disk, &mut body, wanted)?;
             if body.len() == before {
                 return Ok(None);
             }
