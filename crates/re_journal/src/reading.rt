@@ -2,10 +2,10 @@
 ghost use Rattle.std.specs.Prelude.{◌≡◌, ◌+◌, ◌-◌, ◌<◌, ◌≤◌, ◌^◌, ◌++◌, [], Ok, None, false, true, length, vec_len, OnOk, IfOk, IfSome};
 ghost use Rattle.re_outside.specs.Trace.{content_of};
 ghost use Rattle.re_journal.specs.Readings.{coming, KnowsSize, Passes, PassesFound, FoundByte, FoundNumber, FoundBody};
-ghost use Rattle.re_journal.specs.Scans.{HasScanSteps, HasScanCause};
+ghost use Rattle.re_journal.specs.Scans.{HasScanSteps, HasScanCause, NamesNoPlace};
 
-use crate::reader::{PIECE, Reader};
 use crate::ScanFault;
+use crate::reader::{PIECE, Reader};
 use re_outside::{Bytes, Disk};
 use std::alloc::Global;
 
@@ -16,6 +16,7 @@ impl Reader {
         ensures size { D.tells → IfOk result (λ reader. KnowsSize reader (D.past disk.old)) }
         ensures coming { D.tells → IfOk result (λ reader. coming reader (D.past disk.old) ≡ content_of (D.past disk.old) file) }
         ensures file { IfOk result (λ reader. (reader.file ≡ file) × (reader.place ≡ 0)) }
+        ensures no_place { NamesNoPlace result }
         ensures steps { D.tells → HasScanSteps file (D.past disk.old) (D.past disk.new) result }
         ensures cause { HasScanCause (D.faults disk.old) (D.faults disk.new) result }
         ensures device { (D.past disk.new).device ≡ (D.past disk.old).device }
@@ -38,6 +39,7 @@ impl Reader {
         ensures same { D.tells → KnowsSize self.old (D.past disk.old) → OnOk result (coming self.new (D.past disk.old) ≡ coming self.old (D.past disk.old)) }
         ensures end { D.tells → KnowsSize self.old (D.past disk.old) → OnOk result (self.new.used ≡ self.new.filled → coming self.old (D.past disk.old) ≡ []) }
         ensures passes { OnOk result (Passes 0 self.old self.new) }
+        ensures no_place { NamesNoPlace result }
         ensures steps { D.tells → HasScanSteps self.old.file (D.past disk.old) (D.past disk.new) result }
         ensures cause { HasScanCause (D.faults disk.old) (D.faults disk.new) result }
         ensures device { (D.past disk.new).device ≡ (D.past disk.old).device }
@@ -56,6 +58,7 @@ impl Reader {
     pub(crate) fn byte<D: Disk>(&mut self, disk: &mut D) -> Result<Option<u8>, ScanFault>
         ensures found { D.tells → KnowsSize self.old (D.past disk.old) → IfOk result (FoundByte self.old self.new (D.past disk.old)) }
         ensures passes { IfOk result (PassesFound 1 self.old self.new) }
+        ensures no_place { NamesNoPlace result }
         ensures steps { D.tells → HasScanSteps self.old.file (D.past disk.old) (D.past disk.new) result }
         ensures cause { HasScanCause (D.faults disk.old) (D.faults disk.new) result }
         ensures device { (D.past disk.new).device ≡ (D.past disk.old).device }
@@ -75,6 +78,7 @@ impl Reader {
     pub(crate) fn number<D: Disk>(&mut self, disk: &mut D) -> Result<Option<u32>, ScanFault>
         ensures found { D.tells → KnowsSize self.old (D.past disk.old) → IfOk result (FoundNumber self.old self.new (D.past disk.old)) }
         ensures passes { IfOk result (PassesFound 4 self.old self.new) }
+        ensures no_place { NamesNoPlace result }
         ensures steps { D.tells → HasScanSteps self.old.file (D.past disk.old) (D.past disk.new) result }
         ensures cause { HasScanCause (D.faults disk.old) (D.faults disk.new) result }
         ensures device { (D.past disk.new).device ≡ (D.past disk.old).device }
@@ -96,12 +100,18 @@ impl Reader {
     }
 
     /// Takes as many bytes of the piece in hand, or of the next one, as there are, but no more than fit into a body of this size.
-    fn take<D: Disk>(&mut self, disk: &mut D, body: &mut Vec<u8>, size: usize) -> Result<(), ScanFault>
+    fn take<D: Disk>(
+        &mut self,
+        disk: &mut D,
+        body: &mut Vec<u8>,
+        size: usize,
+    ) -> Result<(), ScanFault>
         requires { vec_len body.old ≤ size }
         ensures bytes { D.tells → KnowsSize self.old (D.past disk.old) → OnOk result (body.old.items ++ coming self.old (D.past disk.old) ≡ body.new.items ++ coming self.new (D.past disk.old)) }
         ensures end { D.tells → KnowsSize self.old (D.past disk.old) → OnOk result (vec_len body.new ≡ vec_len body.old → vec_len body.old < size → coming self.old (D.past disk.old) ≡ []) }
         ensures size { (vec_len body.old ≤ vec_len body.new) × (vec_len body.new ≤ size) }
         ensures passes { OnOk result (Passes (vec_len body.new - vec_len body.old) self.old self.new) }
+        ensures no_place { NamesNoPlace result }
         ensures steps { D.tells → HasScanSteps self.old.file (D.past disk.old) (D.past disk.new) result }
         ensures cause { HasScanCause (D.faults disk.old) (D.faults disk.new) result }
         ensures device { (D.past disk.new).device ≡ (D.past disk.old).device }
@@ -116,9 +126,16 @@ impl Reader {
     }
 
     /// A body of this many bytes, which come next, and `None` where fewer are left.
-    pub(crate) fn body<D: Disk>(&mut self, alloc: Global, disk: &mut D, size: u32) -> Result<Option<Bytes>, ScanFault>
+    pub(crate) fn body<D: Disk>(
+        &mut self,
+        alloc: Global,
+        disk: &mut D,
+        size: u32,
+    ) -> Result<Option<Bytes>, ScanFault>
         ensures found { D.tells → KnowsSize self.old (D.past disk.old) → IfOk result (FoundBody size self.old self.new (D.past disk.old)) }
+        ensures size { IfOk result (λ found. IfSome found (λ body. length body.items ≡ size)) }
         ensures passes { IfOk result (PassesFound size self.old self.new) }
+        ensures no_place { NamesNoPlace result }
         ensures steps { D.tells → HasScanSteps self.old.file (D.past disk.old) (D.past disk.new) result }
         ensures cause { HasScanCause (D.faults disk.old) (D.faults disk.new) result }
         ensures device { (D.past disk.new).device ≡ (D.past disk.old).device }
