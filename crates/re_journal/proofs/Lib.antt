@@ -1,4 +1,6 @@
 pub mod Stopping
+pub mod Records
+pub mod Heads
 pub mod Gates
 pub mod Committed
 pub mod Windows
