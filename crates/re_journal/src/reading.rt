@@ -58,6 +58,7 @@ impl Reader {
     pub(crate) fn byte<D: Disk>(&mut self, disk: &mut D) -> Result<Option<u8>, ScanFault>
         ensures found { D.tells → KnowsSize self.old (D.past disk.old) → IfOk result (FoundByte self.old self.new (D.past disk.old)) }
         ensures passes { IfOk result (PassesFound 1 self.old self.new) }
+        ensures room { IfOk result (λ found. IfSome found (λ _. self.old.place + 1 < 2 ^ 64)) }
         ensures no_place { NamesNoPlace result }
         ensures steps { D.tells → HasScanSteps self.old.file (D.past disk.old) (D.past disk.new) result }
         ensures cause { HasScanCause (D.faults disk.old) (D.faults disk.new) result }

@@ -108,6 +108,7 @@ fn record<D: Disk>(
     ensures found { D.tells → KnowsSize reader.old (D.past disk.old) → IfOk result (FoundRecord may_open reader.old reader.new (D.past disk.old)) }
     ensures bad { (place : ℕ) → D.tells → KnowsSize reader.old (D.past disk.old) → result ≡ Err (Bad place) → RefusesBehind (IsRefusedRecord may_open (coming reader.old (D.past disk.old))) reader.old place }
     ensures passes { IfOk result (PassesRecord reader.old reader.new) }
+    ensures room { IfOk result (λ _. reader.old.place + 1 < 2 ^ 64) }
     ensures ahead { IfOk result (λ _. reader.old.place + 1 ≤ reader.new.place) }
     ensures steps { D.tells → HasScanSteps reader.old.file (D.past disk.old) (D.past disk.new) result }
     ensures cause { HasScanCause (D.faults disk.old) (D.faults disk.new) result }

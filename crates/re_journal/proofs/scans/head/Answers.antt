@@ -21,9 +21,9 @@ returns-then-number-lt1-clause-bad g c = λ place told knows full start bad.
     let number : c.generation-number.result ≡ generation_of snapshot = c.generation-number.ensures ∙ ap generation_of c.as_slice.ensures in
     subst (IsRefusedAt (coming c.args.reader.now past)) (place_of_bad bad)
     (head_refused (coming c.args.reader.now past) snapshot (coming c.framed_body.new.reader past) full is c.in_ok-snapshot.ensures.fits (λ allowed.
-      let low = allowed.0 in
-      let high = allowed.1 in
-      elim c.then-number-lt1.either [
-        | inl less ↦ omega (arith, number)
-        | inr more ↦ let over = more.1 in omega (arith, number)
-      ]))
+    let low = allowed.0 in
+    let high = allowed.1 in
+    elim c.then-number-lt1.either [
+      | inl less ↦ omega (arith, number)
+      | inr more ↦ let over = more.1 in omega (arith, number)
+    ]))
