@@ -9,6 +9,7 @@ use Rattle.re_outside.specs.Frame.{IsRecordLength, AreRecords, framed, opened, g
 use Rattle.re_outside.specs.Image.{written, is_in_write, IsTorn}
 use Rattle.re_outside.specs.Plan.{WriteAt, KeepSafe}
 use Rattle.re_outside.proofs.Images.{written_inside}
+use Rattle.re_journal.proofs.Records.{front_more, reads_more}
 use Rattle.re_journal.specs.Journals.{frame_of, MayFollow, HasAllOrOneMore}
 
 -- ---- places in a write
@@ -79,34 +80,6 @@ written_gate before rest gate byte =
     written_inside file (length before) (byte ∷ []) (omega (arith, length-append before (gate ∷ rest)))
     ∙ (λ i. take_at before (gate ∷ rest) (length before) refl i ++ (byte ∷ behind_gate before rest gate i))
 
--- ---- one record more
-
-all_records : (bodies : List (List ℕ)) (body : List ℕ) → AreRecords bodies → IsRecordLength (length body) → AreRecords (bodies ++ body ∷ [])
-all_records [] body all fits = (fits, tt)
-all_records (b ∷ bodies) body all fits = (all.0, all_records bodies body all.1 fits)
-
-no_more : {X : Type 0} (r s : List X) (x : X) → r ++ x ∷ s ≡ [] → ⊥
-no_more [] s x e = absurd (cc)
-no_more (y ∷ r) s x e = absurd (cc)
-
--- a record of a list with one more at its end is that one, or one of the others
-last_or_before : {X : Type 0} (xs r s : List X) (x y : X) → xs ++ x ∷ [] ≡ r ++ y ∷ s → (r ≡ xs) ⊎ ((t : List X) × (xs ≡ r ++ y ∷ t))
-last_or_before [] [] s x y e = inl refl
-last_or_before [] (z ∷ r) s x y e = absurd (no_more r s y (let tail : r ++ y ∷ s ≡ [] = cc in tail))
-last_or_before (w ∷ xs) [] s x y e = inr (xs, (let head : w ≡ y = cc in ap (λ v. v ∷ xs) head))
-last_or_before (w ∷ xs) (z ∷ r) s x y e =
-    let head : w ≡ z = cc in
-    let tail : xs ++ x ∷ [] ≡ r ++ y ∷ s = cc in
-    elim (last_or_before xs r s x y tail) [
-      | inl last ↦ inl (λ i. sym head i ∷ last i)
-      | inr (t, is) ↦ inr (t, (λ i. head i ∷ is i))
-    ]
-
-pub front_more : (snapshot body : List ℕ) (bodies : List (List ℕ)) → front snapshot (bodies ++ body ∷ []) ≡ front snapshot bodies ++ opened body
-front_more snapshot body bodies =
-    ap (λ (l : List ℕ). opened snapshot ++ l) (flat_map-append opened bodies (body ∷ []) ∙ ap (λ (l : List ℕ). flat_map opened bodies ++ l) (append-nil (opened body)))
-    ∙ sym (append_assoc (opened snapshot) (flat_map opened bodies) (opened body))
-
 module _ (file snapshot body frame : List ℕ) (bodies : List (List ℕ)) (has : HasFrame file snapshot bodies) (may : MayFollow snapshot bodies body frame) where
   before : List ℕ
   before = front snapshot bodies
@@ -124,25 +97,11 @@ module _ (file snapshot body frame : List ℕ) (bodies : List (List ℕ)) (has :
   pub one_more : (behind new : List ℕ) → new ≡ front snapshot bodies ++ 1 ∷ (frame ++ behind) → HasFrame new snapshot (bodies ++ body ∷ [])
   one_more behind new is =
       let reads = has.1 in
-      let start = front snapshot bodies in
-      let whole : new ≡ front snapshot (bodies ++ body ∷ []) ++ (0 ∷ behind) =
-      is
-      ∙ (ap (λ (l : List ℕ). start ++ 1 ∷ (l ++ behind)) may.whole
-      ∙ (ap (λ (l : List ℕ). start ++ 1 ∷ l) (append_assoc (framed body) (0 ∷ []) behind)
-      ∙ (sym (append_assoc start (opened body) (0 ∷ behind)) ∙ ap (λ (l : List ℕ). l ++ (0 ∷ behind)) (sym (front_more snapshot body bodies))))) in (
-        0 ∷ behind,
-        record {
-          whole = whole;
-          snapshot_length = reads.snapshot_length;
-          generation_fits = reads.generation_fits;
-          records = all_records bodies body reads.records may.fits;
-          gates = λ b s x e. elim (last_or_before bodies b s body x e) [
-            | inl last ↦ subst (MayOpen (generation snapshot)) (sym last) may.opens
-            | inr (t, at) ↦ reads.gates b t x at
-          ];
-        },
-        (0, behind, (λ (e : ◌≡◌ {A = ℕ} 0 1). omega arith), refl),
-      )
+      let here : ReadsTo new snapshot bodies (1 ∷ (frame ++ behind)) =
+      record { whole = is; snapshot_length = reads.snapshot_length; generation_fits = reads.generation_fits; records = reads.records; gates = reads.gates } in
+      let record_there : 1 ∷ (frame ++ behind) ≡ opened body ++ (0 ∷ behind) =
+      ap (λ (l : List ℕ). 1 ∷ (l ++ behind)) may.whole ∙ ap (λ (l : List ℕ). 1 ∷ l) (append_assoc (framed body) (0 ∷ []) behind) in
+      (0 ∷ behind, reads_more new snapshot body (1 ∷ (frame ++ behind)) (0 ∷ behind) bodies here may.fits may.opens record_there, (0, behind, (λ (e : ◌≡◌ {A = ℕ} 0 1). omega arith), refl))
 
   -- a file that begins so and goes on with some gate and the frame
   pub either_gate : (gate : ℕ) (behind new : List ℕ) → new ≡ front snapshot bodies ++ gate ∷ (frame ++ behind) → HasAllOrOneMore snapshot bodies body new

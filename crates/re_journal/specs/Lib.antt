@@ -1,3 +1,4 @@
 pub mod Journals
 pub mod Commits
 pub mod Scans
+pub mod Readings

@@ -30,6 +30,13 @@ HasScanCause before now (Err Memory) = now ≡ before
 HasScanCause before now (Err Disk) = Rose before now
 HasScanCause before now (Err (Bad at)) = now ≡ before
 
+-- the call doesn't refuse the file at a place
+abbrev pub NamesNoPlace : {T : Type 0} → Result T ScanFault → Type 0
+NamesNoPlace (Ok x) = Unit {0}
+NamesNoPlace (Err Memory) = Unit {0}
+NamesNoPlace (Err Disk) = Unit {0}
+NamesNoPlace (Err (Bad at)) = ⊥
+
 -- the steps of the call are none, but where the disk failed
 abbrev pub HasScanSteps : {T : Type 0} → ℕ → Past → Past → Result T ScanFault → Type 0
 HasScanSteps f old new (Ok x) = new ≡ old

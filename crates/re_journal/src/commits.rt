@@ -17,7 +17,11 @@ pub fn frame(alloc: Global, body: &[u8]) -> Result<Bytes, AllocError>
     requires { length body.now < 2 ^ 32 }
     ensures { IfOk result (λ bytes. bytes ≡ plain (frame_of body.now)) }
 {
-    Err(AllocError)
+    let mut bytes = Vec::with_capacity(alloc, body.len() + 5)?;
+    bytes.extend_from_slice(&(body.len() as u32).to_be_bytes())?;
+    bytes.extend_from_slice(body)?;
+    bytes.push(0)?;
+    Ok(Bytes::from_vec(bytes))
 }
 
 impl Journal {

@@ -8,6 +8,8 @@ mod calls;
 mod commits;
 mod fault;
 mod journal;
+mod reader;
+mod reading;
 mod scans;
 
 pub use commits::frame;
