@@ -10,8 +10,8 @@ use re_wire::encode;
 use std::alloc::{AllocError, Global};
 use std::marker::Model;
 
-/// The replicated state that a device settled last. Contracts see this state. What isn't settled yet never comes here, so
-/// that no update is sent which a stop could still take back.
+/// The replicated state that a device settled last. Contracts see this state. Whoever holds it gives it
+/// settled states alone, so that no update is sent which a stop could still take back.
 #[derive(Drop)]
 pub struct Outbox {
     alloc: Global,

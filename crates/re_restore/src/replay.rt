@@ -9,6 +9,7 @@ ghost use Rattle.re_terms.specs.Listed.{plain};
 ghost use Rattle.re_terms.specs.Programs.{IsProgram};
 ghost use Rattle.re_terms.specs.Shapes.{shape_of};
 ghost use Rattle.re_terms.specs.WordKinds.{IsStateOf};
+ghost use Rattle.re_terms.specs.declared.program.Program.{Program as AProgram};
 
 use crate::entries::{EntryFault, do_entry, put_changes};
 use re_replica::Replica;
@@ -73,6 +74,7 @@ impl Replay {
 
     /// The state and the number of the last entry that it has come to.
     pub fn into_state(self) -> (State, u64)
+        ensures fits { (p : AProgram) → IsReplayOf p self → IsStateOf p result.0 × (result.1 < 2 ^ 48) }
         ensures state { result.0 ≡ (replayed self).state }
         ensures number { result.1 ≡ (replayed self).number }
     {

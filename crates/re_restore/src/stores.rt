@@ -8,6 +8,7 @@ ghost use Rattle.re_restore.specs.Replaying.{items_of};
 ghost use Rattle.re_restore.specs.declared.stores.StoreFault.TheVariants.{At, OtherProgram};
 ghost use Rattle.re_terms.specs.Admission.{device_count};
 ghost use Rattle.re_terms.specs.Programs.{IsProgram};
+ghost use Rattle.re_terms.specs.WordKinds.{IsStateOf};
 
 use crate::records::{ReplayFault, replay_records};
 use crate::replay::Replay;
@@ -19,6 +20,7 @@ use std::alloc::{AllocError, Global};
 /// Why the store of a file isn't opened.
 #[derive(Clone, Copy, Debug, PartialEq, Eq)]
 pub enum StoreFault {
+    /// There is no memory for what it holds.
     Memory,
     /// The first place of the file that is refused.
     At(u64),
@@ -63,8 +65,11 @@ impl From<ReplayFault> for StoreFault {
     }
 }
 
-/// The state and the entry number that a file's snapshot and the records behind it come to. Each entry's changes are put as
-/// they stand, and its operations or its merge are done; no fold's step is run.
+/// The state and the entry number, below 2^48, that a file's snapshot and the records behind it come to. Each entry's changes
+/// are put as they stand, and its operations or its merge are done; no fold's step is run. docs/FORMATS.md has the rules.
+///
+/// The conditions are that the program has the device, that the snapshot has 8 to 131,072 bytes and begins with a generation
+/// from 1 to 2^62, and that each record has at most 65,536 bytes and all of them fit into a file.
 ///
 /// `At` names the first place of the file that is refused, `OtherProgram` comes where the snapshot's text is another one, and
 /// `Memory` where there is no memory.
@@ -82,6 +87,7 @@ pub fn read_store(
     requires bodies { All (λ body. length body.items ≤ 65536) bodies.now }
     requires limit { 5 + length snapshot.now + length (flat_map opened (items_of bodies.now)) < 2 ^ 63 }
     ensures opened { IfOk result (λ x. ComesTo p.now device snapshot.now (items_of bodies.now) (record { state = x.0; number = x.1 })) }
+    ensures fits { IfOk result (λ x. IsStateOf p.now x.0 × (x.1 < 2 ^ 48)) }
     ensures bad { (place : ℕ) → result ≡ Err (At place) → IsRefusedStore p.now device snapshot.now (items_of bodies.now) place }
     ensures other { result ≡ Err OtherProgram → HasOtherText p.now device snapshot.now }
 {

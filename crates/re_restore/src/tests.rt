@@ -3,9 +3,14 @@ ghost use Rattle.std.specs.Prelude.{◌<◌, ◌^◌, length, IfOk};
 ghost use Rattle.re_terms.specs.Programs.{IsProgram};
 
 use crate::{StoreFault, read_store};
-use re_outside::Bytes;
+use re_compact::{Found, find_store, prepare_other, publish};
+use re_fakes::{Files, MemoryWorld};
+use re_journal::frame;
+use re_outside::{Bytes, Disk, Port};
+use re_print::print_program;
+use re_record::{get_entries, get_snapshot, put_entries, put_snapshot};
 use re_syntax::parse;
-use re_terms::{Program, Word};
+use re_terms::{Program, Seq, Shape, Word};
 use re_tokens::tokens;
 use re_types::resolve;
 use std::alloc::Global;
@@ -72,5 +77,77 @@ fn a_store_of_one_turn(rt: HostRuntime) -> Result<(), Fail> {
     let mut id = RECORD;
     id[4] = 0;
     reads(&rt, alloc, text, id, Err(StoreFault::At(83)))?;
+    Ok(())
+}
+
+/// Lays the snapshot into file 0, whose device has no store yet, and commits the record behind it.
+fn commit<D: Disk>(rt: &impl Abort, alloc: Global, disk: &mut D) -> Result<(), Fail> {
+    let Ok(Found::Blank { mut journal }) = find_store(alloc, disk) else {
+        panic!(rt; "no file is blank");
+    };
+    let snapshot = frame(alloc, &SNAPSHOT)?;
+    assert!(rt; prepare_other(&mut journal, disk, snapshot.as_slice()).is_ok());
+    assert!(rt; publish(&mut journal, disk).is_ok());
+    let record = frame(alloc, &RECORD)?;
+    assert!(rt; journal.append(disk, record.as_slice()).is_ok());
+    assert_eq!(rt; journal.bytes(), 33);
+    Ok(())
+}
+
+/// Finds the snapshot and the record again.
+fn finds<D: Disk>(rt: &impl Abort, alloc: Global, disk: &mut D) {
+    let Ok(
+        Found::Store {
+            journal,
+            generation,
+            snapshot,
+            bodies,
+        },
+    ) = find_store(alloc, disk)
+    else {
+        panic!(rt; "no store is found");
+    };
+    assert_eq!(rt; journal.bytes(), 33);
+    assert_eq!(rt; generation, 1);
+    assert_eq!(rt; snapshot.as_slice(), SNAPSHOT.as_slice());
+    assert_eq!(rt; bodies.len(), 1);
+    assert_eq!(rt; bodies.as_slice()[0].as_slice(), RECORD.as_slice());
+}
+
+#[test]
+fn a_store_is_found_again(rt: HostRuntime) -> Result<(), Fail> {
+    let alloc = rt.alloc();
+    let files = Files {
+        list: Seq::new(alloc),
+    };
+    let mut world = MemoryWorld::new(alloc, &[], files, Seq::new(alloc))?;
+    commit(&rt, alloc, &mut Port::new(&mut world, 0))?;
+    let file = world.files().list.as_slice()[0].as_slice();
+    assert_eq!(rt; file.len(), 110);
+    assert_eq!(rt; &file[..5], [1, 0, 0, 0, 70].as_slice());
+    assert_eq!(rt; &file[5..75], SNAPSHOT.as_slice());
+    assert_eq!(rt; &file[75..80], [1, 0, 0, 0, 29].as_slice());
+    assert_eq!(rt; &file[80..109], RECORD.as_slice());
+    assert_eq!(rt; file[109], 0);
+    finds(&rt, alloc, &mut Port::new(&mut world, 0));
+    Ok(())
+}
+
+#[test]
+fn what_is_read_is_written(rt: HostRuntime) -> Result<(), Fail> {
+    let alloc = rt.alloc();
+    let program = program(alloc, b"device a; var x: int = 0;")?;
+    let shape = Shape::of(alloc, &program)?;
+    let Ok(entries) = get_entries(alloc, &RECORD, &program, &shape) else {
+        panic!(rt; "the record isn't read");
+    };
+    let record = put_entries(alloc, &entries, &shape)?;
+    assert_eq!(rt; record.as_slice(), RECORD.as_slice());
+    let Ok(found) = get_snapshot(alloc, &SNAPSHOT, &program, &shape, 0) else {
+        panic!(rt; "the snapshot isn't read");
+    };
+    assert!(rt; print_program(alloc, &program)?.len() <= 65_536);
+    let snapshot = put_snapshot(alloc, &program, &shape, 0, 1, found.number, &found.state)?;
+    assert_eq!(rt; snapshot.as_slice(), SNAPSHOT.as_slice());
     Ok(())
 }
