@@ -1,4 +1,6 @@
+pub mod Laid
 pub mod OneEntry
+pub mod Opened
 pub mod Placing
 pub mod Refused
 pub mod Replayed

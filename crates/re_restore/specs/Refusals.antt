@@ -1,6 +1,8 @@
 -- Why entries, records and stores aren't replayed, by the refusals of the parts below.
 -- Read against: where a replicated state has no room for an element, its entry passes a limit; where a record can't be read at its place 2, it is refused there.
-use Rattle.std.specs.Prelude.{◌+◌}
+use Rattle.std.specs.Prelude.{ℕ, ◌+◌}
+use Rattle.re_compact.specs.declared.fault.OpenFault.{OpenFault}
+use Rattle.re_compact.specs.declared.fault.OpenFault.TheVariants as opening
 use Rattle.re_record.specs.declared.fault.SnapshotFault.{SnapshotFault}
 use Rattle.re_record.specs.declared.fault.SnapshotFault.TheVariants as snapshot
 use Rattle.re_replica.specs.declared.fault.ReplicaFault.{ReplicaFault}
@@ -36,3 +38,9 @@ snapshot_refusal snapshot.OtherText = store.OtherProgram
 abbrev pub record_refusal : ReplayFault → StoreFault
 record_refusal replay.Memory = store.Memory
 record_refusal (replay.At place) = store.At place
+
+-- the store of this file, where it is refused
+abbrev pub refusal_in : ℕ → StoreFault → OpenFault
+refusal_in file store.Memory = opening.Memory
+refusal_in file (store.At at) = opening.BadStore file at
+refusal_in file store.OtherProgram = opening.OtherProgram

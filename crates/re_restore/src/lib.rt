@@ -2,10 +2,12 @@
 #![tactic(auto)]
 
 mod entries;
+mod opening;
 mod records;
 mod replay;
 mod stores;
 #[cfg(test)]
 mod tests;
 
+pub use opening::{Restored, restore};
 pub use stores::{StoreFault, read_store};

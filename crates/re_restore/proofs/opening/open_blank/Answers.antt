@@ -1,0 +1,22 @@
+-- The start, laid into file 0.
+use Rattle.std.proofs.Common.{◌≡◌, [], ap, subst, sym, ◌∙◌, arith}
+use Rattle.re_outside.specs.Frame.{Store}
+use Rattle.re_journal.specs.Journals.{other_file}
+use Rattle.re_terms.specs.WordKinds.{IsStateOf}
+use Rattle.re_terms.proofs.StatesKept.{start_is}
+use Rattle.re_restore.specs.Opening.{start_snapshot}
+use Rattle.re_restore.proofs.Laid.{stands_anew, start_is_snapshot}
+use Rattle.re_restore.proofs.opening.open_blank.Goals as goal
+
+pub returns-clause-restored : goal.returns-clause-restored
+returns-clause-restored g c = record {
+  state = subst (IsStateOf c.args.p.now) (sym c.in-Ok.ensures.state) (start_is c.args.p.now c.requires.program);
+  number = omega arith;
+  generation = (omega arith, omega arith);
+}
+
+pub returns-clause-stands : goal.returns-clause-stands
+returns-clause-stands g c tells stands =
+    let snapshot = start_snapshot c.args.p.now c.args.device in
+    stands_anew c.lay.new.journal c.count_anew.new.self (Store (other_file c.args.journal.file) snapshot []) (g.D.Disk.past c.lay.new.disk) c.count_anew.ensures
+    (c.in-Ok-lay.ensures.stands snapshot tells stands (c.as_slice.ensures ∙ c.in-Ok.ensures.framed) (start_is_snapshot c.args.p.now c.args.device c.requires.program c.requires.text))

@@ -1,0 +1,106 @@
+-- What is restored is what was found, or the start that was laid.
+use Rattle.std.proofs.Common.{◌≡◌, ℕ, List, [], Result, Ok, Err, ap, subst, sym, ◌∙◌}
+use Rattle.std.specs.Prelude.{IfOk}
+use Rattle.std.specs.Result.{IsErrAnd}
+use Rattle.re_outside.specs.Frame as frame
+use Rattle.re_outside.specs.Frame.{HasStoreFrame}
+use Rattle.re_outside.specs.Trace.{Past, content_of}
+use Rattle.re_journal.specs.Journals.{other_file}
+use Rattle.re_journal.specs.Scans.{all_bytes}
+use Rattle.re_journal.specs.declared.journal.Journal.{Journal}
+use Rattle.re_compact.specs.Finding.{HasItsGeneration, frame_found, journal_found}
+use Rattle.re_compact.specs.Pair.{StandsIn}
+use Rattle.re_compact.specs.declared.fault.OpenFault.{OpenFault}
+use Rattle.re_record.specs.Restoring.{Opened, unopened}
+use Rattle.re_record.specs.Stores.{OpensTo}
+use Rattle.re_record.proofs.LoggedLengths.{generation_is}
+use Rattle.re_terms.specs.Programs.{IsProgram}
+use Rattle.re_terms.specs.Shapes.{start_state}
+use Rattle.re_terms.specs.declared.program.Program.{Program}
+use Rattle.re_restore.specs.Opening.{StandsOpened, opened_as, start_snapshot}
+use Rattle.re_restore.specs.Reading.{ComesTo}
+use Rattle.re_restore.specs.declared.opening.Restored.{Restored}
+use Rattle.re_restore.proofs.Laid.{one_fits, stands_anew, start_comes}
+use Rattle.re_restore.proofs.Opened.{bad_frame, bad_store, opens_blank, opens_store}
+use Rattle.re_restore.proofs.opening.restore.Goals as goal
+
+-- the fault of a call that is handed on
+handed_on : {T : Type 0} (r : Result T OpenFault) (e f : OpenFault) → IsErrAnd r (λ x. x ≡ e) → r ≡ Err f → e ≡ f
+handed_on (Ok x) e f is same = absurd is
+handed_on (Err y) e f is same = sym is ∙ (cc)
+
+ok_one : {T E : Type 0} {P Q : T → Type 0} (r : Result T E) → ((x : T) → P x → Q x) → IfOk r P → IfOk r Q
+ok_one (Ok x) f h = f x h
+ok_one (Err e) f h = h
+
+ok_three : {T E : Type 0} {P Q R S : T → Type 0} (r : Result T E) → ((x : T) → P x → Q x → R x → S x) → IfOk r P → IfOk r Q → IfOk r R → IfOk r S
+ok_three (Ok x) f h i j = f x h i j
+ok_three (Err e) f h i j = h
+
+-- the store that a journal stands on is in its own file
+in_own_file : (j : Journal) (file : ℕ) (body : List ℕ) (bodies : List (List ℕ)) (now : Past) → StandsIn j (frame.Store file body bodies) now → StandsIn j (frame.Store j.file body bodies) now
+in_own_file j file body bodies now s = subst (λ f. StandsIn j (frame.Store f body bodies) now) s.here s
+
+stands_at_start : (p : Program) (device file : ℕ) (r : Restored) (now : Past) → IsProgram p → opened_as r ≡ unopened p → r.generation ≡ 1 → StandsIn r.journal (frame.Store file (start_snapshot p device) []) now → StandsOpened p device r now
+stands_at_start p device file r now is opened first s = record {
+  snapshot = start_snapshot p device;
+  bodies = [];
+  stands = in_own_file r.journal file (start_snapshot p device) [] now s;
+  comes = subst (ComesTo p device (start_snapshot p device) []) (sym opened) (start_comes p device is);
+  generation = generation_is p device 1 0 (start_state p) one_fits ∙ sym first;
+}
+
+stands_at_store : (p : Program) (device g : ℕ) (j : Journal) (body : List ℕ) (bodies : List (List ℕ)) (r : Restored) (now : Past) → StandsIn j (frame.Store j.file body bodies) now → g ≡ frame.generation body → ComesTo p device body bodies (opened_as r) → r.generation ≡ g → r.journal ≡ record j { calls = 0 } → StandsOpened p device r now
+stands_at_store p device g j body bodies r now s own comes told same = record {
+  snapshot = body;
+  bodies = bodies;
+  stands = in_own_file r.journal j.file body bodies now (stands_anew j r.journal (frame.Store j.file body bodies) now same s);
+  comes = comes;
+  generation = sym own ∙ sym told;
+}
+
+pub returns-in_err-journal-clause-bad : goal.returns-in_err-journal-clause-bad
+returns-in_err-journal-clause-bad g c file at tells err =
+    bad_frame c.args.p.now c.args.device file at (content_of (g.D.Disk.past c.args.disk.now) 0) (content_of (g.D.Disk.past c.args.disk.now) 1)
+    (c.in_err-journal.ensures.bad file at tells (ap Err (handed_on c.from_residual.result _ _ c.from_residual.ensures.1 err)))
+
+pub returns-in-Blank-clause-opened : goal.returns-in-Blank-clause-opened
+returns-in-Blank-clause-opened g c tells =
+    let a : List ℕ = content_of (g.D.Disk.past c.args.disk.now) 0 in
+    let b : List ℕ = content_of (g.D.Disk.past c.args.disk.now) 1 in
+    let has = subst (λ found. HasStoreFrame a b (frame_found found)) c.in-Blank.is (c.in_ok-journal.ensures.frame tells) in
+    ok_one c.open_blank.result (λ r is. subst (OpensTo c.args.p.now c.args.device a b) (sym is) (opens_blank c.args.p.now c.args.device a b has)) c.open_blank.ensures.opened
+
+pub returns-in-Blank-clause-stands : goal.returns-in-Blank-clause-stands
+returns-in-Blank-clause-stands g c tells =
+    let mid = g.D.Disk.past c.find_store.new.disk in
+    let there = subst (λ found. StandsIn (journal_found found) (frame_found found) mid) c.in-Blank.is (c.in_ok-journal.ensures.stands tells) in
+    ok_three c.open_blank.result
+    (λ r opened first s. stands_at_start c.args.p.now c.args.device (other_file c.in-Blank.journal.file) r (g.D.Disk.past c.open_blank.new.disk) c.requires.program opened first (s there))
+    c.open_blank.ensures.opened c.open_blank.ensures.generation (c.open_blank.ensures.stands tells)
+
+pub returns-in-Store-clause-opened : goal.returns-in-Store-clause-opened
+returns-in-Store-clause-opened g c tells =
+    let a : List ℕ = content_of (g.D.Disk.past c.args.disk.now) 0 in
+    let b : List ℕ = content_of (g.D.Disk.past c.args.disk.now) 1 in
+    let has = subst (λ found. HasStoreFrame a b (frame_found found)) c.in-Store.is (c.in_ok-journal.ensures.frame tells) in
+    ok_one c.open_found.result
+    (λ r comes. opens_store c.args.p.now c.args.device c.in-Store.journal.file a b c.in-Store.snapshot.items (all_bytes c.in-Store.bodies.items) (opened_as r) has comes) c.open_found.ensures.opened
+
+pub returns-in-Store-clause-stands : goal.returns-in-Store-clause-stands
+returns-in-Store-clause-stands g c tells =
+    let now = g.D.Disk.past c.find_store.new.disk in
+    let there = subst (λ found. StandsIn (journal_found found) (frame_found found) now) c.in-Store.is (c.in_ok-journal.ensures.stands tells) in
+    let own = subst HasItsGeneration c.in-Store.is (c.in_ok-journal.ensures.generation tells) in
+    ok_three c.open_found.result
+    (λ r comes told same. stands_at_store c.args.p.now c.args.device c.in-Store.generation c.in-Store.journal c.in-Store.snapshot.items (all_bytes c.in-Store.bodies.items) r now there own comes told same)
+    c.open_found.ensures.opened c.open_found.ensures.generation c.open_found.ensures.journal
+
+pub returns-in-Store-clause-bad : goal.returns-in-Store-clause-bad
+returns-in-Store-clause-bad g c file at tells err =
+    let a : List ℕ = content_of (g.D.Disk.past c.args.disk.now) 0 in
+    let b : List ℕ = content_of (g.D.Disk.past c.args.disk.now) 1 in
+    let has = subst (λ found. HasStoreFrame a b (frame_found found)) c.in-Store.is (c.in_ok-journal.ensures.frame tells) in
+    let refused = c.open_found.ensures.bad file at err in
+    bad_store c.args.p.now c.args.device file at a b c.in-Store.snapshot.items (all_bytes c.in-Store.bodies.items)
+    (subst (λ f. HasStoreFrame a b (frame.Store f c.in-Store.snapshot.items (all_bytes c.in-Store.bodies.items))) (sym refused.0) has) refused.1
