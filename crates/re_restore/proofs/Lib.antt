@@ -4,3 +4,4 @@ pub mod Opened
 pub mod Placing
 pub mod Refused
 pub mod Replayed
+pub mod StillOpening

@@ -16,7 +16,7 @@ ghost use Rattle.re_prop.specs.Caching.{signal_words};
 ghost use Rattle.re_record.specs.Restoring.{unopened};
 ghost use Rattle.re_record.specs.Snapshots.{HasOtherText};
 ghost use Rattle.re_record.specs.Stores.{HasStore, OpensTo, Stored};
-ghost use Rattle.re_restore.specs.Opening.{HasRestoreCause, IsRestoredOf, StandsOpened, opened_as, start_snapshot};
+ghost use Rattle.re_restore.specs.Opening.{HasRestoreCause, IsRestoredOf, StandsOpened, StillOpens, opened_as, start_snapshot};
 ghost use Rattle.re_restore.specs.Reading.{ComesTo, IsRefusedStore};
 ghost use Rattle.re_restore.specs.Refusals.{refusal_in};
 ghost use Rattle.re_terms.specs.Admission.{device_count};
@@ -170,6 +170,7 @@ fn open_blank<D: Disk>(
     ensures generation { IfOk result (λ r. r.generation ≡ 1) }
     ensures running { IfOk result (λ r. (r.journal.calls ≡ 0) × (r.journal.stopped ≡ None)) }
     ensures stands { D.tells → IfOk result (λ r. StandsIn journal Blank (D.past disk.old) → StandsIn r.journal (Store (other_file journal.file) (start_snapshot p.now device) []) (D.past disk.new)) }
+    ensures each_moment { D.tells → StandsIn journal Blank (D.past disk.old) → Throughout (D.past disk.old) (D.past disk.new) (Holds (IsOldOrNew Blank (other_file journal.file) (start_snapshot p.now device)) (D.past disk.old)) }
     ensures refused { (fault : TheFault) → result ≡ Err fault → (fault ≡ MemoryRefusal) ⊎ (fault ≡ DiskRefusal) }
     ensures cause { HasRestoreCause (D.faults disk.old) (D.faults disk.new) result }
     ensures device { (D.past disk.new).device ≡ (D.past disk.old).device }
@@ -221,6 +222,9 @@ pub fn restore<D: Disk>(
     // The journal stands on the store that then is there.
     ensures stands { D.tells → IfOk result (λ r. StandsOpened p.now device r (D.past disk.new)) }
     ensures running { IfOk result (λ r. (r.journal.calls ≡ 0) × (r.journal.stopped ≡ None)) }
+
+    // A stop at any moment leaves what one could have left before, or files that open to the start, where both were blank.
+    ensures each_moment { D.tells → Throughout (D.past disk.old) (D.past disk.new) (StillOpens p.now device (D.past disk.old)) }
 
     ensures bad { (file at : ℕ) → D.tells → result ≡ Err (BadStore file at) → HasStore p.now device (content_of (D.past disk.old) 0) (content_of (D.past disk.old) 1) (Stored.Bad file at) }
     ensures other { D.tells → result ≡ Err OtherProgram → HasStore p.now device (content_of (D.past disk.old) 0) (content_of (D.past disk.old) 1) Stored.OtherProgram }

@@ -6,6 +6,7 @@ use Rattle.re_terms.specs.WordKinds.{IsStateOf}
 use Rattle.re_terms.proofs.StatesKept.{start_is}
 use Rattle.re_restore.specs.Opening.{start_snapshot}
 use Rattle.re_restore.proofs.Laid.{stands_anew, start_is_snapshot}
+use Rattle.re_restore.proofs.StillOpening.{not_laid}
 use Rattle.re_restore.proofs.opening.open_blank.Goals as goal
 
 pub returns-clause-restored : goal.returns-clause-restored
@@ -20,3 +21,14 @@ returns-clause-stands g c tells stands =
     let snapshot = start_snapshot c.args.p.now c.args.device in
     stands_anew c.lay.new.journal c.count_anew.new.self (Store (other_file c.args.journal.file) snapshot []) (g.D.Disk.past c.lay.new.disk) c.count_anew.ensures
     (c.in-Ok-lay.ensures.stands snapshot tells stands (c.as_slice.ensures ∙ c.in-Ok.ensures.framed) (start_is_snapshot c.args.p.now c.args.device c.requires.program c.requires.text))
+
+pub returns-in_default-clause-each_moment : goal.returns-in_default-clause-each_moment
+returns-in_default-clause-each_moment g c tells stands = not_laid c.args.journal (g.D.Disk.past c.args.disk.now) (other_file c.args.journal.file) (start_snapshot c.args.p.now c.args.device) stands
+
+pub returns-in-Err-clause-each_moment : goal.returns-in-Err-clause-each_moment
+returns-in-Err-clause-each_moment g c tells stands =
+    c.lay.ensures.each_moment (start_snapshot c.args.p.now c.args.device) tells stands (c.as_slice.ensures ∙ c.in-Ok.ensures.framed) (start_is_snapshot c.args.p.now c.args.device c.requires.program c.requires.text)
+
+pub returns-clause-each_moment : goal.returns-clause-each_moment
+returns-clause-each_moment g c tells stands =
+    c.lay.ensures.each_moment (start_snapshot c.args.p.now c.args.device) tells stands (c.as_slice.ensures ∙ c.in-Ok.ensures.framed) (start_is_snapshot c.args.p.now c.args.device c.requires.program c.requires.text)

@@ -21,6 +21,7 @@ use Rattle.re_restore.specs.Opening.{StandsOpened, opened_as, start_snapshot}
 use Rattle.re_restore.specs.Reading.{ComesTo}
 use Rattle.re_restore.specs.declared.opening.Restored.{Restored}
 use Rattle.re_restore.proofs.Laid.{one_fits, stands_anew, start_comes}
+use Rattle.re_restore.proofs.StillOpening.{blank_still, found_still}
 use Rattle.re_restore.proofs.Opened.{bad_frame, bad_store, opens_blank, opens_store}
 use Rattle.re_restore.proofs.opening.restore.Goals as goal
 
@@ -104,3 +105,17 @@ returns-in-Store-clause-bad g c file at tells err =
     let refused = c.open_found.ensures.bad file at err in
     bad_store c.args.p.now c.args.device file at a b c.in-Store.snapshot.items (all_bytes c.in-Store.bodies.items)
     (subst (λ f. HasStoreFrame a b (frame.Store f c.in-Store.snapshot.items (all_bytes c.in-Store.bodies.items))) (sym refused.0) has) refused.1
+
+pub returns-in_err-journal-clause-each_moment : goal.returns-in_err-journal-clause-each_moment
+returns-in_err-journal-clause-each_moment g c tells = found_still c.args.p.now c.args.device (g.D.Disk.past c.args.disk.now) (g.D.Disk.past c.find_store.new.disk) (c.find_store.ensures.each_moment tells)
+
+pub returns-in-Blank-clause-each_moment : goal.returns-in-Blank-clause-each_moment
+returns-in-Blank-clause-each_moment g c tells =
+    let old = g.D.Disk.past c.args.disk.now in
+    let mid = g.D.Disk.past c.find_store.new.disk in
+    let there = subst (λ found. StandsIn (journal_found found) (frame_found found) mid) c.in-Blank.is (c.in_ok-journal.ensures.stands tells) in
+    let has = subst (λ found. HasStoreFrame (content_of old 0) (content_of old 1) (frame_found found)) c.in-Blank.is (c.in_ok-journal.ensures.frame tells) in
+    blank_still c.args.p.now c.args.device old mid (g.D.Disk.past c.open_blank.new.disk) (other_file c.in-Blank.journal.file) c.requires.program has (c.find_store.ensures.each_moment tells) (c.open_blank.ensures.each_moment tells there)
+
+pub returns-in-Store-clause-each_moment : goal.returns-in-Store-clause-each_moment
+returns-in-Store-clause-each_moment g c tells = found_still c.args.p.now c.args.device (g.D.Disk.past c.args.disk.now) (g.D.Disk.past c.find_store.new.disk) (c.find_store.ensures.each_moment tells)
