@@ -5,7 +5,8 @@ use Rattle.std.proofs.lemmas.List.{append-nil}
 use Rattle.std.proofs.lemmas.List.Concat.{flat_map-append}
 use Rattle.re_outside.specs.Frame.{IsRecordLength, AreRecords, opened, generation, front, MayOpen, ReadsTo}
 
-all_records : (bodies : List (List ℕ)) (body : List ℕ) → AreRecords bodies → IsRecordLength (length body) → AreRecords (bodies ++ body ∷ [])
+-- one record more
+pub all_records : (bodies : List (List ℕ)) (body : List ℕ) → AreRecords bodies → IsRecordLength (length body) → AreRecords (bodies ++ body ∷ [])
 all_records [] body all fits = (fits, tt)
 all_records (b ∷ bodies) body all fits = (all.0, all_records bodies body all.1 fits)
 

@@ -1,8 +1,10 @@
 -- What a scan of one file gives.
-use Rattle.std.specs.Prelude.{◌≡◌, ◌⊎◌, ℕ, true, List, [], map, Option, None, Result, Ok, Err}
+-- Read against: a snapshot of 70 bytes with the generation 2 and one record of 29 bytes are framed where the journal starts at 75 and has its
+-- gate at 109; a snapshot of 7 bytes, or a record of none, is framed nowhere.
+use Rattle.std.specs.Prelude.{◌≡◌, ◌⊎◌, ℕ, true, List, [], map, length, Option, None, Result, Ok, Err}
 use Rattle.re_outside.specs.Listed.{Listed}
 use Rattle.re_outside.specs.Image.{IsUnchanged}
-use Rattle.re_outside.specs.Frame.{IsBadHead, HasBadFrame}
+use Rattle.re_outside.specs.Frame.{IsSnapshotLength, IsGeneration, AreRecords, opened, generation, front, IsBadHead, HasBadFrame}
 use Rattle.re_outside.specs.Outside.{Rose}
 use Rattle.re_outside.specs.Plan.{FailsOf}
 use Rattle.re_outside.specs.Trace.{Past}
@@ -51,3 +53,11 @@ pub record IsFresh (journal : Journal) (f : ℕ) : Type 0 where
   pub other_length : journal.other_length ≡ 0
   pub other_blank : journal.other_blank ≡ true
   pub running : journal.stopped ≡ None
+
+-- a snapshot and records of allowed lengths, the snapshot with an allowed generation, and the gates of the journal stand around the records
+pub record IsFramed (journal : Journal) (snapshot : List ℕ) (bodies : List (List ℕ)) : Type 0 where
+  pub snapshot_length : IsSnapshotLength (length snapshot)
+  pub generation_fits : IsGeneration (generation snapshot)
+  pub records : AreRecords bodies
+  pub start : journal.start ≡ length (opened snapshot)
+  pub gate : journal.gate ≡ length (front snapshot bodies)

@@ -1,10 +1,10 @@
 //! Reading the frame of one file.
-ghost use Rattle.std.specs.Prelude.{◌≡◌, ◌+◌, ◌<◌, ◌≤◌, ◌^◌, ◌==◌, ◌||◌, nat_le, [], false, length, IfOk, ℕ, Err};
-ghost use Rattle.re_outside.specs.Frame.{is_blank, generation, IsRefusedBody, ReadsTo};
+ghost use Rattle.std.specs.Prelude.{◌≡◌, ◌+◌, ◌<◌, ◌≤◌, ◌^◌, ◌==◌, ◌||◌, nat_le, [], false, length, IfOk, IfSome, ℕ, Err};
+ghost use Rattle.re_outside.specs.Frame.{is_blank, generation, IsSnapshotLength, IsGeneration, IsRecordLength, IsRefusedBody, ReadsTo};
 ghost use Rattle.re_outside.specs.Trace.{content_of};
 ghost use Rattle.re_journal.specs.Journals.{HasGates};
 ghost use Rattle.re_journal.specs.Readings.{coming, KnowsSize, Passes, IsBetween, FoundFramed, RefusesBehind, FoundRecord, PassesRecord, IsRefusedRecord};
-ghost use Rattle.re_journal.specs.Scans.{all_bytes, IsRefusedAt, IsFresh, HasScanSteps, HasScanCause};
+ghost use Rattle.re_journal.specs.Scans.{all_bytes, IsRefusedAt, IsFramed, IsFresh, HasScanSteps, HasScanCause};
 ghost use Rattle.re_journal.specs.declared.fault.ScanFault.TheVariants.{Bad};
 
 use crate::reader::Reader;
@@ -80,7 +80,8 @@ fn framed_body<D: Disk>(
 fn head<D: Disk>(alloc: Global, disk: &mut D, reader: &mut Reader) -> Result<Bytes, ScanFault>
     ensures found { D.tells → KnowsSize reader.old (D.past disk.old) → IfOk result (λ snapshot. ReadsTo (coming reader.old (D.past disk.old)) snapshot.items [] (coming reader.new (D.past disk.old))) }
     ensures bad { (place : ℕ) → D.tells → KnowsSize reader.old (D.past disk.old) → is_blank (coming reader.old (D.past disk.old)) ≡ false → reader.old.place ≡ 0 → result ≡ Err (Bad place) → IsRefusedAt (coming reader.old (D.past disk.old)) place }
-    ensures length { IfOk result (λ snapshot. 8 ≤ length snapshot.items) }
+    ensures length { IfOk result (λ snapshot. IsSnapshotLength (length snapshot.items)) }
+    ensures generation { IfOk result (λ snapshot. IsGeneration (generation snapshot.items)) }
     ensures passes { IfOk result (λ snapshot. Passes (5 + length snapshot.items) reader.old reader.new) }
     ensures steps { D.tells → HasScanSteps reader.old.file (D.past disk.old) (D.past disk.new) result }
     ensures cause { HasScanCause (D.faults disk.old) (D.faults disk.new) result }
@@ -107,6 +108,7 @@ fn record<D: Disk>(
 ) -> Result<Option<Bytes>, ScanFault>
     ensures found { D.tells → KnowsSize reader.old (D.past disk.old) → IfOk result (FoundRecord may_open reader.old reader.new (D.past disk.old)) }
     ensures bad { (place : ℕ) → D.tells → KnowsSize reader.old (D.past disk.old) → result ≡ Err (Bad place) → RefusesBehind (IsRefusedRecord may_open (coming reader.old (D.past disk.old))) reader.old place }
+    ensures fits { IfOk result (λ found. IfSome found (λ body. IsRecordLength (length body.items))) }
     ensures passes { IfOk result (PassesRecord reader.old reader.new) }
     ensures room { IfOk result (λ _. reader.old.place + 1 < 2 ^ 64) }
     ensures ahead { IfOk result (λ _. reader.old.place + 1 ≤ reader.new.place) }
@@ -140,6 +142,9 @@ pub fn scan<D: Disk>(alloc: Global, disk: &mut D, file: u8) -> Result<Scanned, S
     ensures bad { (at : ℕ) → D.tells → is_blank (content_of (D.past disk.old) file) ≡ false → result ≡ Err (Bad at) → IsRefusedAt (content_of (D.past disk.old) file) at }
     ensures size { D.tells → IfOk result (λ found. found.journal.length ≡ length (content_of (D.past disk.old) file)) }
     ensures fresh { IfOk result (λ found. IsFresh found.journal file) }
+
+    // Whatever the disk tells of its content, what it gives has the lengths and the generation that a store may have.
+    ensures framed { IfOk result (λ found. IsFramed found.journal found.snapshot.items (all_bytes found.bodies.items)) }
 
     ensures steps { D.tells → HasScanSteps file (D.past disk.old) (D.past disk.new) result }
     ensures cause { HasScanCause (D.faults disk.old) (D.faults disk.new) result }

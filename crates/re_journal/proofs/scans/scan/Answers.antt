@@ -1,12 +1,12 @@
 use Rattle.std.specs.Prelude.{◌==◌, ◌||◌, nat_le}
 use Rattle.std.specs.List.{flat_map}
 use Rattle.std.proofs.Common.{◌≡◌, ◌++◌, ◌∷◌, ◌+◌, ◌-◌, ◌^◌, [], ℕ, List, Err, true, length, sym, ap, subst, ◌∙◌, rules, arith}
-use Rattle.re_outside.specs.Frame.{IsRecordLength, opened, generation as generation_of, is_blank, ReadsTo}
+use Rattle.re_outside.specs.Frame.{IsRecordLength, AreRecords, opened, generation as generation_of, is_blank, ReadsTo}
 use Rattle.re_outside.specs.Trace.{content_of}
 use Rattle.re_journal.specs.Readings.{coming, KnowsSize, Passes, RefusesBehind, IsRefusedRecord}
 use Rattle.re_journal.specs.Scans.{all_bytes, IsRefusedAt}
 use Rattle.re_journal.specs.declared.fault.ScanFault.TheVariants.{Bad}
-use Rattle.re_journal.proofs.Records.{reads_more}
+use Rattle.re_journal.proofs.Records.{all_records, reads_more}
 use Rattle.re_journal.proofs.ScannedFiles.{bytes_more, long_more, may_open, bad_record}
 use Rattle.re_journal.proofs.scans.scan.Goals as goal
 
@@ -52,6 +52,7 @@ loop-bodies-preserved g c =
     let n : ℕ = reader.place - c.head.new.reader.place in
     let passes : Passes (5 + length body.items) reader next = search rules in
     let pushed : c.push.new.self.items ≡ lists ++ body ∷ [] = search rules in
+    let fits : IsRecordLength (length body.items) = search rules in
     let long : length (flat_map opened (all_bytes c.push.new.self.items)) ≡ length (flat_map opened bodies) + (5 + length body.items) = ap (λ l. length (flat_map opened (all_bytes l))) pushed ∙ long_more lists body in
     record {
       past = search rules;
@@ -60,11 +61,13 @@ loop-bodies-preserved g c =
       faults = search rules;
       file = search rules;
       number = held.number;
+      snapshot_length = held.snapshot_length;
+      generation_fits = held.generation_fits;
+      records = subst AreRecords (sym (ap all_bytes pushed ∙ bytes_more lists body)) (all_records bodies body.items held.records fits);
       start = held.start;
       place = omega (arith, passes.place, held.place, long);
       size = search rules;
       reads = λ told.
-          let fits : IsRecordLength (length body.items) = search rules in
           let test : c.may_be_open-may_open.result ≡ true = search rules in
           let is : coming reader past ≡ opened body.items ++ coming next past = search rules in
           subst (λ (l : List (List ℕ)). ReadsTo (content_of past c.args.file) snapshot l (coming next past)) (sym (ap all_bytes pushed ∙ bytes_more lists body))

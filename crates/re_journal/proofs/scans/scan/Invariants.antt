@@ -1,6 +1,6 @@
 use Rattle.std.specs.List.{flat_map}
 use Rattle.std.proofs.Common.{◌≡◌, ◌+◌, ◌-◌, length}
-use Rattle.re_outside.specs.Frame.{opened, generation, ReadsTo}
+use Rattle.re_outside.specs.Frame.{IsSnapshotLength, IsGeneration, AreRecords, opened, generation, ReadsTo}
 use Rattle.re_outside.specs.Trace.{content_of}
 use Rattle.re_journal.specs.Readings.{coming, KnowsSize}
 use Rattle.re_journal.specs.Scans.{all_bytes}
@@ -14,6 +14,9 @@ invariant-loop-bodies g l = record {
   faults : g.D.Disk.faults l.disk ≡ g.D.Disk.faults l.fn.disk;
   file : l.reader.file ≡ l.fn.file;
   number : l.number ≡ generation l.snapshot.items;
+  snapshot_length : IsSnapshotLength (length l.snapshot.items);
+  generation_fits : IsGeneration (generation l.snapshot.items);
+  records : AreRecords (all_bytes l.bodies.items);
   start : l.start ≡ 5 + length l.snapshot.items;
   place : l.reader.place ≡ l.start + length (flat_map opened (all_bytes l.bodies.items));
   size : g.D.Disk.tells → KnowsSize l.reader (g.D.Disk.past l.fn.disk);
