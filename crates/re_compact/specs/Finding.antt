@@ -1,8 +1,8 @@
 -- What is found in the two files of a device, and what finding it does there.
 -- Read against: where both files are blank the journal stands on them, with file 1 as its own; a stop behind the two syncs leaves both
--- files as they read before.
+-- files as they read before. A store of a snapshot of 7 bytes, or of generation 0, is never found, whatever the disk tells.
 use Rattle.std.specs.Prelude.{◌≡◌, ◌⊎◌, ℕ, Bool, true, List, [], ◌∷◌, length, None, Result, Ok, Err}
-use Rattle.re_outside.specs.Frame.{StoreFrame, Blank as BlankFrame, Store as StoreOf, generation}
+use Rattle.re_outside.specs.Frame.{StoreFrame, Blank as BlankFrame, Store as StoreOf, IsGeneration, generation}
 use Rattle.re_outside.specs.Moment.{IsKept, IsSettled, OnlyDeviceMoves}
 use Rattle.re_outside.specs.Outside.{Rose}
 use Rattle.re_outside.specs.Plan.{StopsAt}
@@ -10,7 +10,7 @@ use Rattle.re_outside.specs.Trace.{Past, with_steps, content_of}
 use Rattle.re_outside.specs.declared.step.Step.{Step}
 use Rattle.re_outside.specs.declared.step.Step.TheVariants as steps
 use Rattle.re_journal.specs.Journals.{other_file}
-use Rattle.re_journal.specs.Scans.{all_bytes, FailsReading}
+use Rattle.re_journal.specs.Scans.{all_bytes, FailsReading, IsFramed}
 use Rattle.re_journal.specs.declared.journal.Journal.{Journal}
 use Rattle.re_compact.specs.Choices.{IsChoice, IsCounting}
 use Rattle.re_compact.specs.declared.choice.Choice.{Choice}
@@ -33,6 +33,11 @@ journal_found (Store journal g snapshot bodies) = journal
 abbrev pub HasItsGeneration : Found → Type 0
 HasItsGeneration (Blank journal) = Unit {0}
 HasItsGeneration (Store journal g snapshot bodies) = g ≡ generation snapshot.items
+
+-- the generation is a number that may be one, and what was found has the lengths and the gates that a store may have
+abbrev pub IsFramedFound : Found → Type 0
+IsFramedFound (Blank journal) = Unit {0}
+IsFramedFound (Store journal g snapshot bodies) = IsGeneration g × IsFramed journal snapshot.items (all_bytes bodies.items)
 
 -- the journal has made no call and isn't stopped, and on two blank files its own one is file 1
 abbrev pub IsFreshlyFound : Found → Type 0

@@ -1,7 +1,8 @@
 //! Which of two files counts.
 ghost use Rattle.std.specs.Prelude.{List, ℕ};
-ghost use Rattle.re_compact.specs.Heads.{IsHead};
-ghost use Rattle.re_compact.specs.Choices.{IsChoice};
+ghost use Rattle.re_outside.specs.Frame.{IsGeneration};
+ghost use Rattle.re_compact.specs.Heads.{IsHead, HasFittingGeneration};
+ghost use Rattle.re_compact.specs.Choices.{IsChoice, ChoosesFittingGeneration};
 
 use crate::Head;
 
@@ -20,7 +21,8 @@ pub enum Choice {
 
 /// Which file counts: the one of greater generation. File 0 is tested first, and two equal generations are refused in file 1.
 pub fn choose(first: Head, second: Head) -> Choice
-    ensures { (a b : List ℕ) → IsHead first a → IsHead second b → IsChoice result a b }
+    ensures chosen { (a b : List ℕ) → IsHead first a → IsHead second b → IsChoice result a b }
+    ensures fits { HasFittingGeneration first → HasFittingGeneration second → ChoosesFittingGeneration result }
 {
     match first {
         Head::Bad { at } => Choice::Bad { file: 0, at },
@@ -31,7 +33,8 @@ pub fn choose(first: Head, second: Head) -> Choice
 
 /// The same where file 0 is blank.
 fn beside_blank(second: Head) -> Choice
-    ensures { (a b : List ℕ) → IsHead Head.Blank a → IsHead second b → IsChoice result a b }
+    ensures chosen { (a b : List ℕ) → IsHead Head.Blank a → IsHead second b → IsChoice result a b }
+    ensures fits { HasFittingGeneration second → ChoosesFittingGeneration result }
 {
     match second {
         Head::Bad { at } => Choice::Bad { file: 1, at },
@@ -45,7 +48,8 @@ fn beside_blank(second: Head) -> Choice
 
 /// The same where file 0 has this generation.
 fn beside_numbered(first: u64, second: Head) -> Choice
-    ensures { (a b : List ℕ) → IsHead (Head.Numbered first) a → IsHead second b → IsChoice result a b }
+    ensures chosen { (a b : List ℕ) → IsHead (Head.Numbered first) a → IsHead second b → IsChoice result a b }
+    ensures fits { IsGeneration first → HasFittingGeneration second → ChoosesFittingGeneration result }
 {
     match second {
         Head::Bad { at } => Choice::Bad { file: 1, at },
@@ -59,7 +63,8 @@ fn beside_numbered(first: u64, second: Head) -> Choice
 
 /// The same where both have generations.
 fn greater(first: u64, second: u64) -> Choice
-    ensures { (a b : List ℕ) → IsHead (Head.Numbered first) a → IsHead (Head.Numbered second) b → IsChoice result a b }
+    ensures chosen { (a b : List ℕ) → IsHead (Head.Numbered first) a → IsHead (Head.Numbered second) b → IsChoice result a b }
+    ensures fits { IsGeneration first → IsGeneration second → ChoosesFittingGeneration result }
 {
     if first == second {
         return Choice::Bad { file: 1, at: 5 };

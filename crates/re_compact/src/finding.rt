@@ -1,12 +1,13 @@
 //! Finding the store that two files hold.
 ghost use Rattle.std.specs.Prelude.{◌≡◌, ◌<◌, ℕ, Err, IfOk, OnOk, OnErr, MatchResult};
-ghost use Rattle.re_outside.specs.Frame.{HasStoreFrame, Bad};
+ghost use Rattle.re_outside.specs.Frame.{HasStoreFrame, Bad, IsGeneration};
 ghost use Rattle.re_outside.specs.Moment.{Throughout};
 ghost use Rattle.re_outside.specs.Outside.{Rose};
 ghost use Rattle.re_outside.specs.Plan.{StopsAt};
 ghost use Rattle.re_outside.specs.Trace.{with_steps, content_of};
 ghost use Rattle.re_journal.specs.Scans.{FailsReading};
-ghost use Rattle.re_compact.specs.Finding.{frame_found, journal_found, HasItsGeneration, IsFreshlyFound, open_steps, HasOpenSteps, HasOpenCause, HasReadSteps, KeepsFiles, AreSettled, IsMeasured, CountsIn, IsBlankJournal};
+ghost use Rattle.re_compact.specs.Choices.{ChoosesFittingGeneration};
+ghost use Rattle.re_compact.specs.Finding.{frame_found, journal_found, HasItsGeneration, IsFramedFound, IsFreshlyFound, open_steps, HasOpenSteps, HasOpenCause, HasReadSteps, KeepsFiles, AreSettled, IsMeasured, CountsIn, IsBlankJournal};
 ghost use Rattle.re_compact.specs.Pair.{StandsIn};
 ghost use Rattle.re_compact.specs.declared.fault.OpenFault.TheVariants.{BadStore};
 
@@ -45,6 +46,9 @@ pub fn find_store<D: Disk>(alloc: Global, disk: &mut D) -> Result<Found, OpenFau
     ensures frame { D.tells → IfOk result (λ found. HasStoreFrame (content_of (D.past disk.old) 0) (content_of (D.past disk.old) 1) (frame_found found)) }
     ensures bad { (file at : ℕ) → D.tells → result ≡ Err (BadStore file at) → HasStoreFrame (content_of (D.past disk.old) 0) (content_of (D.past disk.old) 1) (Bad file at) }
     ensures generation { D.tells → IfOk result HasItsGeneration }
+
+    // Whatever the disk tells of its content, what it gives has the lengths and the generation that a store may have.
+    ensures framed { IfOk result IsFramedFound }
 
     // The journal stands there, and both files are settled.
     ensures stands { D.tells → IfOk result (λ found. StandsIn (journal_found found) (frame_found found) (D.past disk.new)) }
@@ -88,6 +92,7 @@ struct Measured {
 fn measure<D: Disk>(disk: &mut D) -> Result<Measured, Failed>
     ensures same { D.tells → OnOk result (D.past disk.new ≡ D.past disk.old) }
     ensures failed { D.tells → OnErr result ((file : ℕ) × FailsReading file (D.past disk.old) (D.past disk.new)) }
+    ensures fits { IfOk result (λ m. ChoosesFittingGeneration m.choice) }
     ensures measured { D.tells → IfOk result (λ m. IsMeasured m.choice m.first m.second (D.past disk.old)) }
     ensures faults { MatchResult result (λ _. D.faults disk.new ≡ D.faults disk.old) (λ _. Rose (D.faults disk.old) (D.faults disk.new)) }
     ensures device { (D.past disk.new).device ≡ (D.past disk.old).device }
@@ -110,8 +115,10 @@ fn open_measured<D: Disk>(
     disk: &mut D,
     measured: Measured,
 ) -> Result<Found, OpenFault>
+    requires { ChoosesFittingGeneration measured.choice }
     ensures stands { D.tells → AreSettled (D.past disk.old) → IsMeasured measured.choice measured.first measured.second (D.past disk.old) → IfOk result (λ found. StandsIn (journal_found found) (frame_found found) (D.past disk.old) × HasItsGeneration found) }
     ensures bad { (file at : ℕ) → D.tells → AreSettled (D.past disk.old) → IsMeasured measured.choice measured.first measured.second (D.past disk.old) → result ≡ Err (BadStore file at) → HasStoreFrame (content_of (D.past disk.old) 0) (content_of (D.past disk.old) 1) (Bad file at) }
+    ensures framed { IfOk result IsFramedFound }
     ensures fresh { IfOk result IsFreshlyFound }
     ensures steps { D.tells → HasReadSteps (D.past disk.old) (D.past disk.new) result }
     ensures cause { HasOpenCause (D.faults disk.old) (D.faults disk.new) result }
@@ -159,9 +166,11 @@ fn read_store<D: Disk>(
     other_length: u64,
     other_blank: bool,
 ) -> Result<Found, OpenFault>
-    requires { file < 2 }
+    requires file { file < 2 }
+    requires generation { IsGeneration generation }
     ensures stands { D.tells → CountsIn file generation other_length other_blank (D.past disk.old) → IfOk result (λ found. StandsIn (journal_found found) (frame_found found) (D.past disk.old) × HasItsGeneration found) }
     ensures bad { (number at : ℕ) → D.tells → CountsIn file generation other_length other_blank (D.past disk.old) → result ≡ Err (BadStore number at) → HasStoreFrame (content_of (D.past disk.old) 0) (content_of (D.past disk.old) 1) (Bad number at) }
+    ensures framed { IfOk result IsFramedFound }
     ensures fresh { IfOk result IsFreshlyFound }
     ensures steps { D.tells → HasReadSteps (D.past disk.old) (D.past disk.new) result }
     ensures cause { HasOpenCause (D.faults disk.old) (D.faults disk.new) result }

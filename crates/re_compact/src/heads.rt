@@ -5,7 +5,7 @@ ghost use Rattle.re_outside.specs.Outside.{Rose};
 ghost use Rattle.re_outside.specs.Plan.{FailsOf};
 ghost use Rattle.re_outside.specs.Trace.{content_of};
 ghost use Rattle.re_outside.specs.declared.step.Call.TheVariants.{Fetch};
-ghost use Rattle.re_compact.specs.Heads.{IsHead};
+ghost use Rattle.re_compact.specs.Heads.{IsHead, HasFittingGeneration};
 
 use re_outside::{Disk, Failed};
 
@@ -22,7 +22,8 @@ pub enum Head {
 
 /// What the first 13 bytes of a file say of it, or all of them where it has fewer.
 pub fn head_of(front: &[u8]) -> Head
-    ensures { (file : List ℕ) → front.now ≡ take 13 file → IsHead result file }
+    ensures head { (file : List ℕ) → front.now ≡ take 13 file → IsHead result file }
+    ensures fits { HasFittingGeneration result }
 {
     if front.len() < 2 || front[0] != 1 {
         return Head::Blank;
@@ -50,6 +51,7 @@ pub fn head_of(front: &[u8]) -> Head
 pub fn read_head<D: Disk>(disk: &mut D, file: u8, size: u64) -> Result<Head, Failed>
     requires { file < 2 }
     ensures head { D.tells → size ≡ length (content_of (D.past disk.old) file) → IfOk result (λ head. IsHead head (content_of (D.past disk.old) file)) }
+    ensures fits { IfOk result HasFittingGeneration }
     ensures same { D.tells → OnOk result (D.past disk.new ≡ D.past disk.old) }
     ensures failed { D.tells → OnErr result (FailsOf Fetch file 0 [] IsUnchanged (D.past disk.old) (D.past disk.new)) }
     ensures device { (D.past disk.new).device ≡ (D.past disk.old).device }

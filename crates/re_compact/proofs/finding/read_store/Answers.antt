@@ -27,7 +27,7 @@ returns-in-Err-Bad-clause-bad g c = λ number at told counts is.
     let now = g.D.Disk.past c.args.disk.now in
     let own = generation_full (content_of now c.args.file) c.args.generation counts.counting.0 in
     let bad : HasStoreFrame (content_of now 0) (content_of now 1) (Bad c.args.file c.in-Err-Bad.at) =
-    bad_either c.args.file c.requires now c.args.generation c.args.other_blank c.in-Err-Bad.at counts.counting (c.in-Err-Bad.ensures.bad c.in-Err-Bad.at told own (ap Err c.in-Err-Bad.field-0-is)) in
+    bad_either c.args.file c.requires.file now c.args.generation c.args.other_blank c.in-Err-Bad.at counts.counting (c.in-Err-Bad.ensures.bad c.in-Err-Bad.at told own (ap Err c.in-Err-Bad.field-0-is)) in
     let same_file : c.args.file ≡ number = cc in
     let same_place : c.in-Err-Bad.at ≡ at = cc in
     subst (λ f. HasStoreFrame (content_of now 0) (content_of now 1) (Bad f at)) same_file (subst (λ p. HasStoreFrame (content_of now 0) (content_of now 1) (Bad c.args.file p)) same_place bad)
