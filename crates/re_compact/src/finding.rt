@@ -29,13 +29,14 @@ pub enum Found {
     /// A store: the journal that stands on it, its generation, its snapshot, and its records in order.
     Store {
         journal: Journal,
+        /// From 1 to 2^62.
         generation: u64,
         snapshot: Bytes,
         bodies: Seq<Bytes>,
     },
 }
 
-/// Finds the store that the two files of a device hold.
+/// Finds the store that the two files of a device hold. docs/FORMATS.md has the rules.
 ///
 /// It begins with a sync of each file and asks for their lengths. Then it reads the front of each file that has more than one byte, and
 /// of the file that counts the frame. It takes memory for what it gives, and a constant more. `BadStore` names the file and the place of the first

@@ -119,7 +119,9 @@ fn make_publish_calls<D: Disk>(journal: &mut Journal, disk: &mut D) -> Result<()
 /// `framed` is what `frame` gives for a snapshot of 8 to 131,072 bytes. The other file is emptied first where it holds something:
 /// its gate is shut and it is cut to one byte; then the frame is written behind a closed gate. Each change is synced before the next.
 /// It takes no memory. `Disk` comes where a call failed, and the journal has then stopped; `Stopped` where it had stopped before,
-/// with the number of that call, and then no call is made.
+/// with the number of that call, and then no call is made. docs/FORMATS.md has the layout.
+///
+/// What is said of the two files is said where the journal stands on them.
 pub fn prepare_other<D: Disk>(
     journal: &mut Journal,
     disk: &mut D,
@@ -155,6 +157,9 @@ pub fn prepare_other<D: Disk>(
 ///
 /// It takes no memory. `Disk` comes where a call failed, and the journal has then stopped; `Stopped` where it had stopped before, with
 /// the number of that call, and then no call is made.
+///
+/// What is said of the two files is said where the journal stands on them, `prepare_other` laid the snapshot, and its generation is
+/// greater than that of the file in use.
 pub fn publish<D: Disk>(journal: &mut Journal, disk: &mut D) -> Result<(), JournalFault>
     // The calls, in order, up to the first that failed.
     ensures done { D.tells → OnOk result (D.past disk.new ≡ with_steps (D.past disk.old) (publish_steps (D.past disk.old).device (other_file journal.old.file))) }

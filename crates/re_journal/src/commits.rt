@@ -12,7 +12,7 @@ use crate::{Journal, JournalFault};
 use re_outside::{Bytes, Disk};
 use std::alloc::{AllocError, Global};
 
-/// The frame of a body: its length, the body, and a closed gate. The one refusal is want of memory.
+/// The frame of a body: its length, the body, and a closed gate, as docs/FORMATS.md has it. The one refusal is want of memory.
 pub fn frame(alloc: Global, body: &[u8]) -> Result<Bytes, AllocError>
     requires { length body.now < 2 ^ 32 }
     ensures { IfOk result (λ bytes. bytes ≡ plain (frame_of body.now)) }

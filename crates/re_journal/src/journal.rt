@@ -4,7 +4,7 @@ ghost use Rattle.std.specs.Prelude.{◌+◌, ◌<◌, ◌^◌};
 /// The journal of a device's store: where the next record goes, and what is known of the device's two files.
 ///
 /// Places and lengths count bytes. A journal of a blank file starts at 0 and has its gate at 0. Once a call of it has failed, the
-/// journal has stopped: it makes no more calls.
+/// journal has stopped: commits and layings then make no more calls. docs/FORMATS.md has the layout of a file.
 #[derive(Drop)]
 pub struct Journal {
     /// The number of its own file, 0 or 1.

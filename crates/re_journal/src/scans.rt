@@ -23,7 +23,9 @@ const LAST_GENERATION: u64 = 1 << 62;
 #[derive(Drop)]
 pub struct Scanned {
     pub journal: Journal,
+    /// 8 to 131,072 bytes, which begin with a generation.
     pub snapshot: Bytes,
+    /// The records in order, each of 1 to 65,536 bytes.
     pub bodies: Seq<Bytes>,
 }
 
@@ -130,7 +132,7 @@ fn record<D: Disk>(
     Ok(Some(framed_body(alloc, disk, reader, 1, 65_536)?))
 }
 
-/// Reads the frame of a file that isn't blank, up to its first closed gate.
+/// Reads the frame of a file that isn't blank, up to its first closed gate. docs/FORMATS.md has the layout.
 ///
 /// It reads the file in pieces of fixed size, each byte at most once, and looks at nothing behind that gate. It takes memory for
 /// what it gives, and a constant more. `Bad` names the first field that is cut off or isn't allowed, `Disk` comes where a call on

@@ -24,9 +24,10 @@ same_device old now on = ap (λ past. past.device) on.1
 -- what keeps the files still opens
 keeps_still : (p : Program) (device : ℕ) (old now : Past) → IsBefore old now → KeepsFiles old now → StillOpens p device old now
 keeps_still p device old now on keeps = record {
-  images = λ first second one two. inl
-      (keeps.first.images first (subst (λ d. IsCrashImageAt now d 0 first) (same_device old now on) one),
-       keeps.second.images second (subst (λ d. IsCrashImageAt now d 1 second) (same_device old now on) two));
+  images = λ first second one two. inl (
+    keeps.first.images first (subst (λ d. IsCrashImageAt now d 0 first) (same_device old now on) one),
+    keeps.second.images second (subst (λ d. IsCrashImageAt now d 1 second) (same_device old now on) two),
+  );
   others = keeps.others;
 }
 

@@ -1,17 +1,11 @@
 -- What opening the files of a device gives, and what it does there.
 -- Read against: with `device a; var x: int = 0;` two blank files of no bytes open to x = 0 and the number 0 by two syncs and six calls on file 0, after which this file has 76 bytes; a stop within leaves files that open to the same. Two files that hold a store open by the two syncs alone.
-use Rattle.std.specs.Prelude.{◌≡◌, ◌⊎◌, ℕ, ◌<◌, ◌^◌, ◌&&◌, true, if◌then◌else◌, List, [], ◌++◌, length, Result, Ok, Err}
+use Rattle.std.specs.Prelude.{◌≡◌, ◌⊎◌, ℕ, ◌<◌, ◌^◌, true, List, Result, Ok, Err}
 use Rattle.re_outside.specs.Frame as frame
 use Rattle.re_outside.specs.Frame.{IsGeneration, is_blank}
 use Rattle.re_outside.specs.Moment.{OnlyDeviceMoves}
 use Rattle.re_outside.specs.Outside.{Rose}
-use Rattle.re_outside.specs.Plan.{StopsAt}
-use Rattle.re_outside.specs.Trace.{Past, IsCrashImageOf, content_of, with_steps}
-use Rattle.re_outside.specs.declared.step.Step.{Step}
-use Rattle.re_journal.specs.Journals.{frame_of}
-use Rattle.re_journal.specs.declared.journal.Journal.{Journal}
-use Rattle.re_compact.specs.Finding.{StopsOpening, open_steps}
-use Rattle.re_compact.specs.Laying.{prepare_steps, publish_steps}
+use Rattle.re_outside.specs.Trace.{Past, IsCrashImageOf, content_of}
 use Rattle.re_compact.specs.Pair.{StandsIn}
 use Rattle.re_compact.specs.declared.fault.OpenFault.{OpenFault}
 use Rattle.re_compact.specs.declared.fault.OpenFault.TheVariants.{Memory, Disk, BadStore, OtherProgram}
@@ -50,10 +44,6 @@ pub record StandsOpened (p : Program) (device : ℕ) (r : Restored) (now : Past)
 abbrev pub start_snapshot : Program → ℕ → List ℕ
 start_snapshot p device = snapshot_bytes p device 1 0 (start_state p)
 
--- the steps by which it is laid into file 0, which is blank and has so many bytes, and its gate opened
-abbrev pub start_steps : Program → ℕ → ℕ → ℕ → List Step
-start_steps p device d size = prepare_steps d 0 true size (frame_of (start_snapshot p device)) ++ publish_steps d 0
-
 -- both files are blank
 abbrev pub AreBlank : Past → Type 0
 AreBlank past = (is_blank (content_of past 0) ≡ true) × (is_blank (content_of past 1) ≡ true)
@@ -65,25 +55,6 @@ pub record StillOpens (p : Program) (device : ℕ) (old now : Past) : Type 0 whe
   pub images : (first second : List ℕ) → IsCrashImageOf now 0 first → IsCrashImageOf now 1 second
       → (IsCrashImageOf old 0 first × IsCrashImageOf old 1 second) ⊎ (AreBlank old × OpensTo p device first second (unopened p))
   pub others : OnlyDeviceMoves old now
-
--- the two syncs, and behind them the laying of the start where both files were blank
-abbrev pub restore_steps : Program → ℕ → Past → List Step
-restore_steps p device old =
-    open_steps old.device ++ (if is_blank (content_of old 0) && is_blank (content_of old 1) then start_steps p device old.device (length (content_of old 0)) else [])
-
--- one of the syncs failed, or a call that asked for a length or for bytes, or both files were blank and a call of the laying failed
-abbrev pub StopsRestoring : Program → ℕ → Past → Past → Type 0
-StopsRestoring p device old new =
-    StopsOpening old new
-    ⊎ (AreBlank old × (at : ℕ) × StopsAt (start_steps p device old.device (length (content_of old 0))) 0 at (with_steps old (open_steps old.device)) new)
-
--- these steps and no others; no snapshot is laid where the files are refused, or memory runs out
-abbrev pub HasRestoreSteps : {T : Type 0} → Program → ℕ → Past → Past → Result T OpenFault → Type 0
-HasRestoreSteps p device old new (Ok x) = new ≡ with_steps old (restore_steps p device old)
-HasRestoreSteps p device old new (Err Memory) = new ≡ with_steps old (open_steps old.device)
-HasRestoreSteps p device old new (Err Disk) = StopsRestoring p device old new
-HasRestoreSteps p device old new (Err (BadStore file at)) = new ≡ with_steps old (open_steps old.device)
-HasRestoreSteps p device old new (Err OtherProgram) = new ≡ with_steps old (open_steps old.device)
 
 -- the disk failed in the call where that is the refusal, and not otherwise
 abbrev pub HasRestoreCause : {T : Type 0} → ℕ → ℕ → Result T OpenFault → Type 0

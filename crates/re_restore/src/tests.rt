@@ -2,7 +2,7 @@
 ghost use Rattle.std.specs.Prelude.{◌<◌, ◌^◌, length, IfOk};
 ghost use Rattle.re_terms.specs.Programs.{IsProgram};
 
-use crate::{StoreFault, read_store};
+use crate::{Restored, StoreFault, read_store, restore};
 use re_compact::{Found, find_store, prepare_other, publish};
 use re_fakes::{Files, MemoryWorld};
 use re_journal::frame;
@@ -149,5 +149,45 @@ fn what_is_read_is_written(rt: HostRuntime) -> Result<(), Fail> {
     assert!(rt; print_program(alloc, &program)?.len() <= 65_536);
     let snapshot = put_snapshot(alloc, &program, &shape, 0, 1, found.number, &found.state)?;
     assert_eq!(rt; snapshot.as_slice(), SNAPSHOT.as_slice());
+    Ok(())
+}
+
+/// Opens device 0, which then has this word of x and so many entries.
+fn opens<D: Disk>(
+    rt: &impl Abort,
+    alloc: Global,
+    disk: &mut D,
+    word: Word,
+    entries: u64,
+) -> Result<Restored, Fail> {
+    let program = program(alloc, b"device a; var x: int = 0;")?;
+    assert!(rt; program.decls.len() == 2);
+    assert!(rt; program.decls.as_slice()[0].body.is_device());
+    assert!(rt; print_program(alloc, &program)?.len() <= 65_536);
+    let Ok(restored) = restore(alloc, disk, &program, 0) else {
+        panic!(rt; "the device isn't opened");
+    };
+    assert_eq!(rt; restored.state.words.as_slice(), [word].as_slice());
+    assert_eq!(rt; restored.number, entries);
+    assert_eq!(rt; restored.generation, 1);
+    Ok(restored)
+}
+
+#[test]
+fn a_device_is_opened(rt: HostRuntime) -> Result<(), Fail> {
+    let alloc = rt.alloc();
+    let files = Files {
+        list: Seq::new(alloc),
+    };
+    let mut world = MemoryWorld::new(alloc, &[], files, Seq::new(alloc))?;
+    let first = opens(&rt, alloc, &mut Port::new(&mut world, 0), Word::Int(0), 0)?;
+    let mut journal = first.journal;
+    assert_eq!(rt; journal.bytes(), 0);
+    let record = frame(alloc, &RECORD)?;
+    let committed = journal.append(&mut Port::new(&mut world, 0), record.as_slice());
+    assert!(rt; committed.is_ok());
+    let again = opens(&rt, alloc, &mut Port::new(&mut world, 0), Word::Int(5), 1)?;
+    assert_eq!(rt; again.journal.bytes(), 33);
+    assert_eq!(rt; again.journal.stopped(), None);
     Ok(())
 }

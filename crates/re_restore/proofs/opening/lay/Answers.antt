@@ -28,7 +28,7 @@ returns-clause-stands g c snapshot tells =
     let now = g.D.Disk.past c.publish.new.disk in
     ok_then c.publish.result
     (λ h stands framed is.
-        let there = c.in_ok-prepare_other.ensures.stands Blank tells stands in
-        let prepared = c.in_ok-prepare_other.ensures.prepared Blank snapshot tells stands framed in
-        subst (λ f. StandsIn c.publish.new.journal (Store (other_file f) snapshot []) now) c.prepare_other.ensures.file (h there prepared (may_replace c.prepare_other.new.journal mid snapshot there is)))
+    let there = c.in_ok-prepare_other.ensures.stands Blank tells stands in
+    let prepared = c.in_ok-prepare_other.ensures.prepared Blank snapshot tells stands framed in
+    subst (λ f. StandsIn c.publish.new.journal (Store (other_file f) snapshot []) now) c.prepare_other.ensures.file (h there prepared (may_replace c.prepare_other.new.journal mid snapshot there is)))
     (c.publish.ensures.stands Blank snapshot tells)
