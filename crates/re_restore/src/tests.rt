@@ -122,7 +122,10 @@ fn a_store_is_found_again(rt: HostRuntime) -> Result<(), Fail> {
     };
     let mut world = MemoryWorld::new(alloc, &[], files, Seq::new(alloc))?;
     commit(&rt, alloc, &mut Port::new(&mut world, 0))?;
-    let file = world.files().list.as_slice()[0].as_slice();
+    let Some(bytes) = world.files().list.get(0) else {
+        panic!(rt; "no file is there");
+    };
+    let file = bytes.as_slice();
     assert_eq!(rt; file.len(), 110);
     assert_eq!(rt; &file[..5], [1, 0, 0, 0, 70].as_slice());
     assert_eq!(rt; &file[5..75], SNAPSHOT.as_slice());
