@@ -1,35 +1,21 @@
--- One step of a session's world, of one device.
--- Read against: on `var x: int = 2; signal s = x + 3;` the commands get s, turn x = 5, get s are answered 5, ok 1, 8; the 4,097th turn is answered with the code 29.
--- On `counter c; set s: int;` the commands turn add c 9223372036854775807, turn add c 1, turn insert s 4, get s are answered ok 1, no 31, ok 2, {4}.
-use Rattle.std.specs.Prelude.{ℕ, ◌+◌, ◌-◌, ◌^◌, ◌||◌, Bool, true, false, if◌then◌else◌, List, [], ◌∷◌, ◌++◌, length, nat_le, Option, Some, option_map, slice_get}
+-- The answers to commands, and what they are made of.
+-- Read against: a device that took 4,096 entries takes no more; on `set s: int;` what is shown of s after insert s 4 is {4}, and of a var its word.
+use Rattle.std.specs.Prelude.{ℕ, ◌-◌, ◌^◌, ◌||◌, Bool, true, false, if◌then◌else◌, List, nat_le, slice_get}
 use Rattle.std.specs.Option.{option_map_or}
 use Rattle.re_terms.specs.declared.word.Word.{Word}
 use Rattle.re_terms.specs.declared.program.Program.{Program}
 use Rattle.re_terms.specs.declared.entry.Admitted.{Admitted}
-use Rattle.re_terms.specs.declared.command.Command.{Command}
-use Rattle.re_terms.specs.declared.command.Command.TheVariants as command
 use Rattle.re_terms.specs.declared.command.Answer.{Answer}
 use Rattle.re_terms.specs.declared.command.Answer.TheVariants as answer
 use Rattle.re_terms.specs.declared.program.Body.{Body}
 use Rattle.re_terms.specs.declared.program.Body.TheVariants as body
 use Rattle.re_terms.specs.declared.program.Decl.{Decl}
-use Rattle.re_terms.specs.Limits.{OperationFault, DotsSpent, SetFull, CounterFull, updates_fault}
-use Rattle.re_terms.specs.Runs.{PlainState, PlainEntry, Turn, plain_start, plain_view, run_entries}
+use Rattle.re_terms.specs.Limits.{OperationFault, DotsSpent, SetFull, CounterFull}
+use Rattle.re_terms.specs.Runs.{PlainState, PlainEntry, Turn, plain_view}
 use Rattle.re_terms.specs.Shapes.{shape_of}
 use Rattle.re_terms.specs.SignalWords.{replicated_place, signal_word}
 use Rattle.re_terms.specs.Values.{value_at, value_elements}
 use Rattle.re_terms.specs.WordOrder.{elements_of}
-
--- the one device, which is device 0: its state and entry number at the start, and the entries that it took since
-pub record World : Type 0 where
-  pub base : PlainState
-  pub number : ℕ
-  pub settled : List PlainEntry
-
--- how a command fared: as it should, or memory ran out in it
-pub data Outcome : Type 0 where
-  Fine : Outcome
-  Memory : Outcome
 
 pub data PlainAnswer : Type 0 where
   -- the entry has this number and is settled
@@ -69,18 +55,6 @@ plain_answer (answer.No code) = Refused code
 plain_answer (answer.StoppedAt call) = StoppedAt call
 plain_answer (answer.BadFile file place) = BadFile file place
 
--- the world before any command
-abbrev pub start_world : Program → World
-start_world p = record { base = plain_start p; number = 0; settled = [] }
-
--- the device's state
-abbrev pub world_state : Program → World → PlainState
-world_state p w = run_entries p 0 w.base w.settled
-
--- the number of its last entry
-abbrev pub last_number : World → ℕ
-last_number w = w.number + length w.settled
-
 -- a device that took so many entries since it was opened, the last of which has this number, takes no more
 abbrev pub is_full : ℕ → ℕ → Bool
 is_full count number = nat_le 4096 count || nat_le (2 ^ 48 - 1) number
@@ -95,10 +69,6 @@ limit_code SetFull = 30
 limit_code CounterFull = 31
 limit_code DotsSpent = 32
 
--- the code of the device's refusal of a turn, if it refuses it: it takes no more, or an operation would pass a limit
-abbrev pub turn_refusal : Program → World → Admitted → Option ℕ
-turn_refusal p w t = if is_full (length w.settled) (last_number w) then Some 29 else option_map limit_code (updates_fault (shape_of p) 0 t.turn.ops.items (world_state p w).taken)
-
 -- the declaration with this id is a set
 abbrev pub is_set_body : Body → Bool
 is_set_body (body.Set kind) = true
@@ -110,19 +80,3 @@ is_set_at decls id = option_map_or (λ d. is_set_body d.body) (slice_get decls i
 -- what `get` shows: the elements of a set, and the word of any other name
 abbrev pub shown : Program → PlainState → ℕ → PlainAnswer
 shown p s id = if is_set_at p.decls.items id then Members (value_elements (value_at (shape_of p) s.taken (replicated_place p.decls.items id))) else Value (signal_word p s.words (plain_view p s) id)
-
--- the answer to a command
-abbrev pub reply : Program → World → Command → Outcome → PlainAnswer
-reply p w c Memory = Refused 36
-reply p w (command.Turn device turn) Fine = option_map_or Refused (turn_refusal p w turn) (Entered (last_number w + 1))
-reply p w (command.Get device id) Fine = shown p (world_state p w) id
-reply p w c Fine = Refused 19
-
--- the world after a command: a turn that isn't refused is settled as an entry, and nothing else changes it
-abbrev pub world_after : Program → World → Command → Outcome → World
-world_after p w (command.Turn device turn) Fine = option_map_or (λ code. w) (turn_refusal p w turn) (record { base = w.base; number = w.number; settled = w.settled ++ turn_entry turn ∷ [] })
-world_after p w c o = w
-
--- one step
-abbrev pub world_step : Program → World → Command → Outcome → World × PlainAnswer
-world_step p w c o = (world_after p w c o, reply p w c o)

@@ -23,7 +23,8 @@ use Rattle.re_terms.specs.UpdateStates.{state_of_updates}
 use Rattle.re_terms.specs.Values.{value_at, value_elements, view_of_updates}
 use Rattle.re_terms.specs.Views.{cell_elements, view_of}
 use Rattle.re_terms.specs.WordOrder.{elements_of}
-use Rattle.re_terms.specs.Worlds.{World, Fine, Memory, Entered, Members, Value, start_world, world_state, last_number, is_full, is_set_at, limit_code, turn_entry, turn_refusal}
+use Rattle.re_terms.specs.Worlds.{Entered, Members, Value, is_full, is_set_at, limit_code, turn_entry}
+use Rattle.re_tool.specs.Worlds.{World, Fine, Memory, start_world, world_state, last_number, turn_refusal}
 use Rattle.re_terms.proofs.Members.{state_none}
 use Rattle.re_terms.proofs.TakenIns.{taken_start, taken_made, taken_state, taken_fault, taken_devices}
 use Rattle.re_terms.proofs.Values.{elements_are, view_is}

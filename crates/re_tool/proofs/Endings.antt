@@ -8,7 +8,7 @@ use Rattle.re_outside.specs.Outside.{Seen, Does, Breaks, IsAtEnd, Faults, none, 
 use Rattle.re_outside.proofs.Does.{does-nil, does_well, breaks_does, at_end}
 use Rattle.re_tool.proofs.Ends.{stops_none, stops_input, ends_output}
 use Rattle.re_terms.specs.declared.program.Program.{Program}
-use Rattle.re_terms.specs.Worlds.{Outcome, start_world}
+use Rattle.re_tool.specs.Worlds.{Outcome, start_world}
 use Rattle.re_tool.specs.declared.reader.Reader.{Reader}
 use Rattle.re_tool.specs.declared.words.Job.{Job}
 use Rattle.re_tool.specs.declared.words.Job.TheVariants as job

@@ -7,7 +7,7 @@ use Rattle.re_outside.specs.declared.step.Step.TheVariants as step
 use Rattle.re_outside.specs.Outside.{Seen, AreSays, Does, Fails, Breaks, IsFailure, said, none}
 use Rattle.re_outside.proofs.Does.{does-nil, does-trans, plus-none, said-append, failure-said, says_alone}
 use Rattle.re_terms.specs.declared.program.Program.{Program}
-use Rattle.re_terms.specs.Worlds.{World, Outcome, start_world}
+use Rattle.re_tool.specs.Worlds.{World, Outcome, start_world}
 use Rattle.re_commands.specs.Commanding.{commanded}
 use Rattle.re_tool.specs.declared.words.Job.{Job}
 use Rattle.re_tool.specs.declared.status.Status.{Status}

@@ -5,7 +5,7 @@ use Rattle.re_terms.specs.declared.command.Command.{Command}
 use Rattle.re_terms.specs.declared.command.Command.TheVariants as command
 use Rattle.re_terms.specs.declared.entry.Admitted.{Admitted}
 use Rattle.re_terms.specs.declared.program.Program.{Program}
-use Rattle.re_terms.specs.Worlds.{World, Outcome, Fine, Memory, reply, turn_refusal, world_after}
+use Rattle.re_tool.specs.Worlds.{World, Outcome, Fine, Memory, reply, turn_refusal, world_after}
 use Rattle.re_commands.specs.Commanding.{commanded}
 use Rattle.re_tool.specs.Answers.{Reading, first, others, line_answer, line_after, lines_after}
 use Rattle.re_tool.specs.Histories.{entered, taken}

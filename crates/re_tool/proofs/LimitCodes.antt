@@ -9,7 +9,8 @@ use Rattle.re_terms.specs.declared.program.Program.{Program}
 use Rattle.re_terms.specs.Limits.{OperationFault, DotsSpent, SetFull, CounterFull, updates_fault}
 use Rattle.re_terms.specs.Runs.{PlainState}
 use Rattle.re_terms.specs.Shapes.{shape_of}
-use Rattle.re_terms.specs.Worlds.{World, Outcome, Fine, Memory, PlainAnswer, Entered, Refused, is_full, is_set_at, last_number, limit_code, reply, shown, turn_refusal, world_state}
+use Rattle.re_terms.specs.Worlds.{PlainAnswer, Entered, Refused, is_full, is_set_at, limit_code, shown}
+use Rattle.re_tool.specs.Worlds.{World, Outcome, Fine, Memory, last_number, reply, turn_refusal, world_state}
 use Rattle.re_commands.specs.declared.fault.CommandFault.{CommandFault}
 use Rattle.re_commands.specs.declared.fault.CommandFault.TheVariants as fault
 use Rattle.re_tool.specs.Answers.{Reading, fault_code, line_answer}

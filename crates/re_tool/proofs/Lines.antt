@@ -5,7 +5,8 @@ use Rattle.re_terms.specs.declared.command.Answer.{Answer}
 use Rattle.re_terms.specs.declared.command.Answer.TheVariants as answer
 use Rattle.re_terms.specs.declared.command.Command.{Command}
 use Rattle.re_terms.specs.declared.program.Program.{Program}
-use Rattle.re_terms.specs.Worlds.{World, Fine, Memory, plain_answer}
+use Rattle.re_terms.specs.Worlds.{plain_answer}
+use Rattle.re_tool.specs.Worlds.{World, Fine, Memory}
 use Rattle.re_terms.specs.declared.entry.Admitted.{Admitted}
 use Rattle.re_terms.specs.declared.program.Decl.{Decl}
 use Rattle.re_terms.specs.declared.raw.RawTurn.{RawTurn}

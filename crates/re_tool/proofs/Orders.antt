@@ -4,7 +4,7 @@ use Rattle.std.proofs.lemmas.List.{append-nil}
 use Rattle.re_outside.specs.Outside.{Seen, Does, none}
 use Rattle.re_outside.proofs.Does.{does-nil}
 use Rattle.re_terms.specs.declared.program.Program.{Program}
-use Rattle.re_terms.specs.Worlds.{World, Outcome}
+use Rattle.re_tool.specs.Worlds.{World, Outcome}
 use Rattle.re_commands.specs.Commanding.{commanded}
 use Rattle.re_tool.specs.Answers.{texts, lines_after, first, others, line_text, line_after}
 use Rattle.re_tool.specs.Acts.{Act, Acts, Ordered}

@@ -6,7 +6,7 @@ use Rattle.std.proofs.lemmas.List.{append-nil, length_push, map-append}
 use Rattle.re_outside.specs.Outside.{Seen, Does, IsAtEnd, none}
 use Rattle.re_outside.proofs.Does.{does-nil, does_well, does_as}
 use Rattle.re_terms.specs.declared.program.Program.{Program}
-use Rattle.re_terms.specs.Worlds.{Outcome, start_world}
+use Rattle.re_tool.specs.Worlds.{Outcome, start_world}
 use Rattle.re_tool.specs.declared.reader.Reader.{Reader}
 use Rattle.re_tool.specs.declared.words.Job.{Job}
 use Rattle.re_tool.specs.declared.words.Job.TheVariants as job

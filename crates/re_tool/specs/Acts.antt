@@ -2,7 +2,7 @@
 use Rattle.std.specs.Prelude.{ℕ, ◌≡◌, ◌++◌, List, [], ◌∷◌, length, Option, Some, None}
 use Rattle.re_outside.specs.Outside.{Seen, Does, none}
 use Rattle.re_terms.specs.declared.program.Program.{Program}
-use Rattle.re_terms.specs.Worlds.{World, Outcome}
+use Rattle.re_tool.specs.Worlds.{World, Outcome}
 use Rattle.re_commands.specs.Commanding.{commanded}
 use Rattle.re_tool.specs.Answers.{Session, first, others, line_text, line_after, lines_after}
 

@@ -4,7 +4,8 @@
 use Rattle.std.specs.Prelude.{ℕ, ◌-◌, List, [], ◌∷◌, ◌++◌, Bool, true, false, Option, Some, None, Result, Ok, Err, if◌then◌else◌, take, codes}
 use Rattle.re_terms.specs.declared.program.Program.{Program}
 use Rattle.re_terms.specs.declared.command.Command.{Command}
-use Rattle.re_terms.specs.Worlds.{World, Outcome, Fine, Memory, PlainAnswer, Refused, reply, world_after}
+use Rattle.re_terms.specs.Worlds.{PlainAnswer, Refused}
+use Rattle.re_tool.specs.Worlds.{World, Outcome, Fine, Memory, reply, world_after}
 use Rattle.re_commands.specs.declared.fault.CommandFault.{CommandFault}
 use Rattle.re_commands.specs.declared.fault.CommandFault.TheVariants as fault
 use Rattle.re_tool.specs.declared.words.Job.{Job}

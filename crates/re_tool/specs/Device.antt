@@ -5,7 +5,8 @@ use Rattle.re_terms.specs.declared.command.Command.{Command}
 use Rattle.re_terms.specs.declared.program.Program.{Program}
 use Rattle.re_terms.specs.Runs.{StandsForPlain}
 use Rattle.re_terms.specs.TakenIn.{IsTakenIn}
-use Rattle.re_terms.specs.Worlds.{World, Outcome, world_state, last_number, plain_answer, reply, world_after}
+use Rattle.re_terms.specs.Worlds.{plain_answer}
+use Rattle.re_tool.specs.Worlds.{World, Outcome, world_state, last_number, reply, world_after}
 use Rattle.re_device.specs.Device.{DeviceState}
 use Rattle.re_device.specs.declared.fault.DeviceFault.{DeviceFault}
 use Rattle.re_device.specs.declared.fault.DeviceFault.TheVariants as fault

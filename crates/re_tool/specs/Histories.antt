@@ -7,7 +7,8 @@ use Rattle.re_terms.specs.declared.program.Program.{Program}
 use Rattle.re_terms.specs.declared.word.Word.{Word}
 use Rattle.re_terms.specs.Propagation.{put_word}
 use Rattle.re_terms.specs.Runs.{PlainEntry, Turn}
-use Rattle.re_terms.specs.Worlds.{World, Outcome, Fine, PlainAnswer, Entered, turn_entry}
+use Rattle.re_terms.specs.Worlds.{PlainAnswer, Entered, turn_entry}
+use Rattle.re_tool.specs.Worlds.{World, Outcome, Fine}
 use Rattle.re_commands.specs.Commanding.{commanded}
 use Rattle.re_tool.specs.Answers.{Reading, first, others, line_answer, line_after}
 

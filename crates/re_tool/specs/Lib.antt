@@ -19,3 +19,4 @@ pub mod Session
 pub mod Status
 pub mod Verdict
 pub mod Words
+pub mod Worlds

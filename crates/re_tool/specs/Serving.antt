@@ -3,7 +3,8 @@ use Rattle.std.specs.Prelude.{ℕ, ◌≡◌, ◌≤◌, List, [], ◌∷◌, �
 use Rattle.std.specs.List.{flat_map}
 use Rattle.re_terms.specs.declared.program.Program.{Program}
 use Rattle.re_terms.specs.declared.command.Answer.{Answer}
-use Rattle.re_terms.specs.Worlds.{World, Outcome, start_world, plain_answer}
+use Rattle.re_terms.specs.Worlds.{plain_answer}
+use Rattle.re_tool.specs.Worlds.{World, Outcome, start_world}
 use Rattle.re_outside.specs.Outside.{Seen, Does, Breaks, none}
 use Rattle.re_tool.specs.declared.words.Job.TheVariants as job
 use Rattle.re_tool.specs.declared.reader.Reader.{Reader}

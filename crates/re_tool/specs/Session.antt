@@ -2,7 +2,7 @@
 use Rattle.std.specs.Prelude.{ℕ, ◌≡◌, ◌≤◌, ◌+◌, ◌++◌, ◌⊎◌, length, List, [], Bool, true, false, Option, Some, None, IsSome}
 use Rattle.re_outside.specs.Outside.{Seen, FaultKind, Input, Output, Disk, Does, Fails, Breaks, IsAtEnd, Faults, none, input_fault}
 use Rattle.re_outside.specs.declared.step.Call.TheVariants as call
-use Rattle.re_terms.specs.Worlds.{start_world}
+use Rattle.re_tool.specs.Worlds.{start_world}
 use Rattle.re_tool.specs.declared.words.Job.{Job}
 use Rattle.re_tool.specs.declared.words.Job.TheVariants as job
 use Rattle.re_tool.specs.declared.status.Status.{Status}

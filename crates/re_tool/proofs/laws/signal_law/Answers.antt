@@ -1,6 +1,7 @@
 use Rattle.std.proofs.Common.{◌++◌, ◌∷◌, [], ap, ◌∙◌}
 use Rattle.re_terms.specs.Runs.{plain_view}
-use Rattle.re_terms.specs.Worlds.{world_state, Fine, is_set_body}
+use Rattle.re_terms.specs.Worlds.{is_set_body}
+use Rattle.re_tool.specs.Worlds.{world_state, Fine}
 use Rattle.re_print.specs.AnswerTexts.{answer_text}
 use Rattle.re_print.specs.Canonical.{word_text}
 use Rattle.re_tool.specs.Answers.{line_text}

@@ -1,4 +1,4 @@
-use Rattle.re_terms.specs.Worlds.{start_world}
+use Rattle.re_tool.specs.Worlds.{start_world}
 use Rattle.re_tool.proofs.Histories.{settled-taken}
 use Rattle.re_tool.proofs.laws.turn_law.Goals as goal
 

@@ -1,7 +1,8 @@
 use Rattle.std.proofs.Common.{◌++◌, ◌∷◌, [], ap, ◌∙◌}
 use Rattle.re_terms.specs.Runs.{plain_view, run_entries}
 use Rattle.re_terms.specs.SignalWords.{signal_word}
-use Rattle.re_terms.specs.Worlds.{start_world, world_state, Fine, is_set_body}
+use Rattle.re_terms.specs.Worlds.{is_set_body}
+use Rattle.re_tool.specs.Worlds.{start_world, world_state, Fine}
 use Rattle.re_print.specs.AnswerTexts.{answer_text}
 use Rattle.re_print.specs.Canonical.{word_text}
 use Rattle.re_tool.specs.Answers.{line_text, lines_after}
