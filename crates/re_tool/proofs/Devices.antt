@@ -28,9 +28,9 @@ use Rattle.re_tool.specs.Worlds.{World, Fine, Memory, start_world, world_state, 
 use Rattle.re_terms.proofs.Members.{state_none}
 use Rattle.re_terms.proofs.TakenIns.{taken_start, taken_made, taken_state, taken_fault, taken_devices}
 use Rattle.re_terms.proofs.Values.{elements_are, view_is}
-use Rattle.re_device.specs.Device.{DeviceState, started, rep_after, turn_step, turn_fault, after_turn}
-use Rattle.re_device.specs.declared.fault.DeviceFault.{DeviceFault}
-use Rattle.re_device.specs.declared.fault.DeviceFault.TheVariants as fault
+use Rattle.re_unstored.specs.Device.{DeviceState, started, rep_after, turn_step, turn_fault, after_turn}
+use Rattle.re_unstored.specs.declared.fault.DeviceFault.{DeviceFault}
+use Rattle.re_unstored.specs.declared.fault.DeviceFault.TheVariants as fault
 use Rattle.re_tool.specs.Device.{Represents, StepsTo, turn_fault_code}
 
 pub run_entries-append : (p : Program) (device : ℕ) (s : PlainState) (xs ys : List PlainEntry) → run_entries p device s (xs ++ ys) ≡ run_entries p device (run_entries p device s xs) ys
@@ -111,7 +111,7 @@ turned p w d t is =
       };
       taken = subst (λ (s : PlainState). IsTakenIn s.taken 0 s.taken) (sym after) (taken_is p w d t is);
       number = let n = is.number in let k = length-append w.settled (turn_entry t ∷ []) in omega arith;
-      count = let n = is.count in let k = length-append w.settled (turn_entry t ∷ []) in let l = length-append d.entries (Rattle.re_device.specs.Device.turn_entry d t.turn ∷ []) in omega arith;
+      count = let n = is.count in let k = length-append w.settled (turn_entry t ∷ []) in let l = length-append d.entries (Rattle.re_unstored.specs.Device.turn_entry d t.turn ∷ []) in omega arith;
     }
 
 pub turn_taken : (d after : DeviceState) (device number : ℕ) (t : Admitted) → IsAdmitted d.program t.turn → after ≡ after_turn d t.turn → number ≡ d.number + 1 → is_full (length d.entries) d.number ≡ false → turn_fault d t.turn ≡ None → StepsTo d after (command.Turn device t) (answer.Entered number)

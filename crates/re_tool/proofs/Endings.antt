@@ -18,7 +18,7 @@ use Rattle.re_tool.specs.Acts.{Ordered, OrderedIn}
 use Rattle.re_tool.specs.Answers.{Outcomes, Session, texts, lines_after, session_of, session_in, answers, done, close, ending_in, reading_end, session_text, first_lines}
 use Rattle.re_tool.specs.Endings.{Ending, Done, InputFault, NoMemory, InputTooLong, status_at, last_line}
 use Rattle.re_tool.specs.Clipped.{Clipped}
-use Rattle.re_device.specs.Device.{DeviceState}
+use Rattle.re_unstored.specs.Device.{DeviceState}
 use Rattle.re_tool.specs.Lines.{split, ended, without_return}
 use Rattle.re_tool.specs.Part.{Part, part_of, last_lines}
 use Rattle.re_tool.specs.Reads.{Reads, ReadFails, Takes, limit}

@@ -22,7 +22,7 @@ use Rattle.re_commands.specs.LineGrammar.{Line, Turn, Lazy, Settle, Get, Send, D
 use Rattle.re_commands.specs.declared.fault.CommandFault.{CommandFault}
 use Rattle.re_commands.specs.declared.fault.CommandFault.TheVariants as fault
 use Rattle.re_print.specs.AnswerTexts.{answer_text}
-use Rattle.re_device.specs.Device.{DeviceState}
+use Rattle.re_unstored.specs.Device.{DeviceState}
 use Rattle.re_tool.specs.Answers.{fault_code, line_text, line_after}
 use Rattle.re_tool.specs.Device.{Represents, StepsTo}
 use Rattle.re_tool.specs.Serving.{AnswersLine, said_of}

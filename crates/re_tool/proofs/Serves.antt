@@ -4,7 +4,7 @@ use Rattle.re_outside.specs.Outside.{Seen}
 use Rattle.re_terms.specs.declared.program.Program.{Program}
 use Rattle.re_tool.specs.Clipped.{Clipped, clipped}
 use Rattle.re_commands.specs.Commanding.{commanded}
-use Rattle.re_device.specs.Device.{DeviceState}
+use Rattle.re_unstored.specs.Device.{DeviceState}
 use Rattle.re_tool.specs.Lines.{without_return}
 use Rattle.re_tool.specs.Serving.{Turns, TurnLost, TurnBreaks}
 use Rattle.re_tool.proofs.Programs.{line-kept, line-kept_last}

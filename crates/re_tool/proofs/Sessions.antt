@@ -15,7 +15,7 @@ use Rattle.re_tool.specs.Answers.{Outcomes, Session, texts, lines_after, line_te
 use Rattle.re_tool.specs.Endings.{Ending, InputFault, status_at}
 use Rattle.re_tool.specs.Clipped.{Clipped}
 use Rattle.re_commands.specs.Commanding.{commanded}
-use Rattle.re_device.specs.Device.{DeviceState}
+use Rattle.re_unstored.specs.Device.{DeviceState}
 use Rattle.re_tool.specs.Device.{Represents}
 use Rattle.re_tool.specs.Lines.{split, ended, IsPlain, ArePlain, without_return}
 use Rattle.re_tool.specs.Part.{Part, divided, part_of, part_in, last_lines}

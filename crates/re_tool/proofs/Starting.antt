@@ -18,7 +18,7 @@ use Rattle.re_tool.specs.Acts.{OrderedIn}
 use Rattle.re_tool.specs.Answers.{Session, session_of, session_in, answers, close, checked_text, ending_in, reading_end, session_text, first_lines}
 use Rattle.re_tool.specs.Endings.{Ending, Done, RefusedProgram, InputFault, NoMemory, InputTooLong, status_at, last_line}
 use Rattle.re_tool.specs.Clipped.{Clipped}
-use Rattle.re_device.specs.Device.{DeviceState}
+use Rattle.re_unstored.specs.Device.{DeviceState}
 use Rattle.re_tool.specs.Device.{Represents}
 use Rattle.re_tool.specs.Lines.{split, ended, without_return}
 use Rattle.re_tool.specs.Part.{Part, divided, part_of, part_in}

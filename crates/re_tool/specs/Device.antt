@@ -7,9 +7,9 @@ use Rattle.re_terms.specs.Runs.{StandsForPlain}
 use Rattle.re_terms.specs.TakenIn.{IsTakenIn}
 use Rattle.re_terms.specs.Worlds.{plain_answer}
 use Rattle.re_tool.specs.Worlds.{World, Outcome, world_state, last_number, reply, world_after}
-use Rattle.re_device.specs.Device.{DeviceState}
-use Rattle.re_device.specs.declared.fault.DeviceFault.{DeviceFault}
-use Rattle.re_device.specs.declared.fault.DeviceFault.TheVariants as fault
+use Rattle.re_unstored.specs.Device.{DeviceState}
+use Rattle.re_unstored.specs.declared.fault.DeviceFault.{DeviceFault}
+use Rattle.re_unstored.specs.declared.fault.DeviceFault.TheVariants as fault
 
 -- the device is that of the world: it is device 0 of its program, its state stands for the world's, and it took as many entries;
 -- the updates that it has taken in are its own, a causal log

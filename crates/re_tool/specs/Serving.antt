@@ -12,7 +12,7 @@ use Rattle.re_tool.specs.declared.running.Ended.{Ended}
 use Rattle.re_tool.specs.declared.running.Ended.TheVariants as ended_by
 use Rattle.re_tool.specs.Answers.{line_text, line_after}
 use Rattle.re_commands.specs.Commanding.{commanded}
-use Rattle.re_device.specs.Device.{DeviceState}
+use Rattle.re_unstored.specs.Device.{DeviceState}
 use Rattle.re_tool.specs.Device.{Represents}
 use Rattle.re_tool.specs.Lines.{ended, ArePlain}
 use Rattle.re_tool.specs.Part.{divided}

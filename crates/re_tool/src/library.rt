@@ -3,7 +3,6 @@ ghost use Rattle.std.specs.Prelude.{◌≡◌, ◌<◌, ◌^◌, length};
 
 use crate::{Job, Status, session};
 use re_commands::command;
-use re_device::Device;
 use re_eval::Steps;
 use re_fakes::{Files, MemoryWorld};
 use re_graph::Graph;
@@ -12,6 +11,7 @@ use re_syntax::parse;
 use re_terms::{Command, Seq, Word};
 use re_tokens::tokens;
 use re_types::resolve;
+use re_unstored::Unstored;
 use std::alloc::{AllocError, Global};
 use std::marker::Brand;
 use std::sync::ledger::{Blank, Ledger};
@@ -34,7 +34,7 @@ fn word_after<L: Ledger>(
     let tree = parse(alloc, &tokens).ok()?;
     let program = resolve(alloc, tree).ok()?;
     let graph = Graph::build(alloc, &program).ok()?;
-    let mut device = Device::start(alloc, program, graph, 0).ok()?;
+    let mut device = Unstored::start(alloc, program, graph, 0).ok()?;
     let Ok(Some(Command::Turn { turn, .. })) = command(alloc, line, device.program()) else {
         return None;
     };

@@ -17,7 +17,7 @@ ghost use Rattle.re_tool.specs.Serving.{AnswersLine, TurnGives, Starts, said_of}
 ghost use Rattle.re_tool.specs.Session.{Finishes, Runs};
 ghost use Rattle.re_tool.specs.Verdict.{Decides, Accepted};
 ghost use Rattle.re_print.specs.AnswerTexts.{AscendsWhereSet};
-ghost use Rattle.re_device.specs.Device.{started};
+ghost use Rattle.re_unstored.specs.Device.{started};
 
 use crate::faults::{ProgramFault, Refusal, refusal_text};
 use crate::line::ClippedLine;
@@ -27,12 +27,12 @@ use crate::reading::read_program;
 use crate::status::Status;
 use crate::words::Job;
 use re_commands::{CommandFault, command};
-use re_device::{Device, DeviceFault};
 use re_eval::Steps;
 use re_graph::Graph;
 use re_outside::{Bytes, Failed, Outside, say_all};
 use re_print::{print_answer, print_program};
 use re_terms::{Admitted, Answer, Body, Command, Program, TryCopy};
+use re_unstored::{DeviceFault, Unstored};
 use std::alloc::{AllocError, Global};
 use std::marker::Brand;
 use std::sync::ledger::{Blank, Ledger};
@@ -94,7 +94,7 @@ fn is_set(p: &Program, id: u16) -> bool
 }
 
 /// What `get` shows of a name: a set's pairs, or a word. The one refusal is want of memory, for a set.
-fn shown(alloc: Global, device: &Device, id: u16) -> Answer
+fn shown(alloc: Global, device: &Unstored, id: u16) -> Answer
     ensures steps { (number : ℕ) → StepsTo device.now device.now (Command.Get number id) result }
     ensures ascends { AscendsWhereSet result }
 {
@@ -108,7 +108,7 @@ fn shown(alloc: Global, device: &Device, id: u16) -> Answer
 }
 
 /// Takes a turn, and gives its answer. A refused turn changes nothing.
-fn take_turn<L: Ledger>(device: &mut Device, steps: &mut Steps<L>, turn: Admitted) -> Answer
+fn take_turn<L: Ledger>(device: &mut Unstored, steps: &mut Steps<L>, turn: Admitted) -> Answer
     requires { IsAdmitted device.old.program turn.turn }
     ensures steps { (number : ℕ) → StepsTo device.old device.new (Command.Turn number turn) result }
     ensures program { device.new.program ≡ device.old.program }
@@ -123,7 +123,7 @@ fn take_turn<L: Ledger>(device: &mut Device, steps: &mut Steps<L>, turn: Admitte
 /// Does a command, and gives its answer. A refused command changes nothing.
 fn answer_command<L: Ledger>(
     alloc: Global,
-    device: &mut Device,
+    device: &mut Unstored,
     steps: &mut Steps<L>,
     command: Command,
 ) -> Answer
@@ -144,7 +144,7 @@ fn answer_command<L: Ledger>(
 /// Where memory runs out, the line is refused and nothing changes.
 fn answer_line<L: Ledger>(
     alloc: Global,
-    device: &mut Device,
+    device: &mut Unstored,
     steps: &mut Steps<L>,
     line: &[u8],
 ) -> Option<Answer>
@@ -173,7 +173,7 @@ fn answer_text(alloc: Global, p: &Program, answer: &Answer) -> Result<Bytes, All
 /// Does one line, and says its answer whole.
 fn turn<L: Ledger, O: Outside>(
     alloc: Global,
-    device: &mut Device,
+    device: &mut Unstored,
     steps: &mut Steps<L>,
     line: &[u8],
     out: &mut O,
@@ -247,7 +247,7 @@ fn refuse<O: Outside>(alloc: Global, out: &mut O, why: Refusal) -> Status
 /// Does the lines behind the program part, and ends the run.
 fn serve<L: Ledger, O: Outside>(
     alloc: Global,
-    device: &mut Device,
+    device: &mut Unstored,
     steps: &mut Steps<L>,
     reader: &mut Reader,
     out: &mut O,
@@ -281,12 +281,12 @@ fn serve<L: Ledger, O: Outside>(
 }
 
 /// The device of a program, before any entry. The one refusal is want of memory.
-fn start(alloc: Global, program: Program) -> Result<Device, AllocError>
+fn start(alloc: Global, program: Program) -> Result<Unstored, AllocError>
     requires { IsProgram program }
     ensures { IfOk result (λ device. device ≡ started program 0) }
 {
     let graph = Graph::build(alloc, &program)?;
-    Device::start(alloc, program, graph, 0)
+    Unstored::start(alloc, program, graph, 0)
 }
 
 /// Runs a program whose part was read, up to a separator or to the end of the input.

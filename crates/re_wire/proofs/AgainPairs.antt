@@ -34,25 +34,25 @@ record InOrder (o : Ordering) (d before_d n before_n : ℕ) : Type 0 where
 
 -- the devices and numbers of two pairs with one element, the second behind the first
 abbrev DotsInOrder : ℕ → ℕ → ℕ → ℕ → Type 0
-DotsInOrder device before_device number before_number = (ltb device before_device ≡ false) × ((eqb device before_device && leb number before_number) ≡ false)
+DotsInOrder device before_unstored number before_number = (ltb device before_unstored ≡ false) × ((eqb device before_unstored && leb number before_number) ≡ false)
 
 less_is : (a b : ℕ) → nat_cmp a b ≡ Less → a < b
 less_is a b e = subst (λ (o : Ordering). MatchOrdering o (a < b) (a ≡ b) (b < a)) e (ranked a b (nat_cmp a b) refl)
 
-dots_by : (o : Ordering) (device before_device number before_number : ℕ) → MatchOrdering o (before_device < device) (before_device ≡ device) (device < before_device) → ordering_then o (nat_cmp before_number number) ≡ Less → DotsInOrder device before_device number before_number
-dots_by Less device before_device number before_number ranks e =
-    (le-ltb device before_device (omega arith), ap (λ (b : Bool). b && leb number before_number) (ne_eqb device before_device (λ same. omega arith)))
-dots_by Equal device before_device number before_number ranks e =
+dots_by : (o : Ordering) (device before_unstored number before_number : ℕ) → MatchOrdering o (before_unstored < device) (before_unstored ≡ device) (device < before_unstored) → ordering_then o (nat_cmp before_number number) ≡ Less → DotsInOrder device before_unstored number before_number
+dots_by Less device before_unstored number before_number ranks e =
+    (le-ltb device before_unstored (omega arith), ap (λ (b : Bool). b && leb number before_number) (ne_eqb device before_unstored (λ same. omega arith)))
+dots_by Equal device before_unstored number before_number ranks e =
     let lt = less_is before_number number e in
-    (le-ltb device before_device (omega arith), rw (eq-eqb device before_device (sym ranks)) (lt-leb number before_number lt))
-dots_by Greater device before_device number before_number ranks e = absurd cc
+    (le-ltb device before_unstored (omega arith), rw (eq-eqb device before_unstored (sym ranks)) (lt-leb number before_number lt))
+dots_by Greater device before_unstored number before_number ranks e = absurd cc
 
-behind : (o : Ordering) (device before_device number before_number : ℕ) → ordering_then (ordering_reverse o) (ordering_then (nat_cmp before_device device) (nat_cmp before_number number)) ≡ Less → InOrder o device before_device number before_number
-behind Less device before_device number before_number e = absurd cc
-behind Equal device before_device number before_number e =
-    let d = dots_by (nat_cmp before_device device) device before_device number before_number (ranked before_device device (nat_cmp before_device device) refl) e in
+behind : (o : Ordering) (device before_unstored number before_number : ℕ) → ordering_then (ordering_reverse o) (ordering_then (nat_cmp before_unstored device) (nat_cmp before_number number)) ≡ Less → InOrder o device before_unstored number before_number
+behind Less device before_unstored number before_number e = absurd cc
+behind Equal device before_unstored number before_number e =
+    let d = dots_by (nat_cmp before_unstored device) device before_unstored number before_number (ranked before_unstored device (nat_cmp before_unstored device) refl) e in
     record { element = refl; device = d.0; number = d.1 }
-behind Greater device before_device number before_number e = record { element = refl; device = refl; number = refl }
+behind Greater device before_unstored number before_number e = record { element = refl; device = refl; number = refl }
 
 record Follows (before : Option Pair) (p : Pair) : Type 0 where
   element : element_descends before p.element ≡ false

@@ -31,18 +31,18 @@ and_second true b h e = e
 and_second false b h e = absurd cc
 
 -- of two pairs with this order of their elements, devices and numbers the second stands behind the first
-ascends : (o : Ordering) (device before_device number before_number : ℕ) → is_lt o ≡ false → (is_eq o && ltb device before_device) ≡ false → (is_eq o && eqb device before_device && leb number before_number) ≡ false
-    → ordering_then (ordering_reverse o) (ordering_then (nat_cmp before_device device) (nat_cmp before_number number)) ≡ Less
-ascends Less device before_device number before_number e d n = absurd cc
-ascends Equal device before_device number before_number e d n =
-    elim (cases_lt before_device device) [
-      | inl lt ↦ rw (lt-ltb before_device device lt) refl
+ascends : (o : Ordering) (device before_unstored number before_number : ℕ) → is_lt o ≡ false → (is_eq o && ltb device before_unstored) ≡ false → (is_eq o && eqb device before_unstored && leb number before_number) ≡ false
+    → ordering_then (ordering_reverse o) (ordering_then (nat_cmp before_unstored device) (nat_cmp before_number number)) ≡ Less
+ascends Less device before_unstored number before_number e d n = absurd cc
+ascends Equal device before_unstored number before_number e d n =
+    elim (cases_lt before_unstored device) [
+      | inl lt ↦ rw (lt-ltb before_unstored device lt) refl
       | inr le ↦
-          let same : device ≡ before_device = (let back = ltb-false device before_device d in omega arith) in
-          let later : before_number < number = leb-false number before_number (and_second _ _ (eq-eqb device before_device same) n) in
-          rw (le-ltb before_device device le, eq-eqb before_device device (sym same), lt-ltb before_number number later) refl
+          let same : device ≡ before_unstored = (let back = ltb-false device before_unstored d in omega arith) in
+          let later : before_number < number = leb-false number before_number (and_second _ _ (eq-eqb device before_unstored same) n) in
+          rw (le-ltb before_unstored device le, eq-eqb before_unstored device (sym same), lt-ltb before_number number later) refl
     ]
-ascends Greater device before_device number before_number e d n = refl
+ascends Greater device before_unstored number before_number e d n = refl
 
 -- a pair stands behind the one before it
 abbrev pub IsBehind : Option Pair → Pair → Type 0

@@ -1,5 +1,5 @@
 use Rattle.std.proofs.Common.{◌≡◌, Bool, true, false, not, refl, sym, subst}
-use Rattle.re_device.specs.Device.{DeviceState, started}
+use Rattle.re_unstored.specs.Device.{DeviceState, started}
 use Rattle.re_tool.specs.Serving.{Starts}
 use Rattle.re_tool.proofs.Devices.{started-represents}
 use Rattle.re_tool.proofs.Endings.{near_finish}
