@@ -1,4 +1,5 @@
 pub mod Choices
+pub mod Committing
 pub mod Finding
 pub mod Heads
 pub mod Laying
