@@ -7,3 +7,4 @@ pub mod Stores
 pub mod Standing
 pub mod Opening
 pub mod Counted
+pub mod Committing

@@ -32,7 +32,7 @@ MayCommit snapshot bodies (Some new) body next framed = (next ≡ Some (frame_of
 abbrev pub committing_steps : ℕ → Journal → Option (List ℕ) → List ℕ → List Step
 committing_steps d journal None framed = commit_steps d journal.file journal.gate framed
 committing_steps d journal (Some next) framed =
-    prepare_steps d (other_file journal.file) journal.other_blank journal.other_length next ++ publish_steps d (other_file journal.file) ++ commit_steps d (other_file journal.file) (length next) framed
+    prepare_steps d (other_file journal.file) journal.other_blank journal.other_length next ++ (publish_steps d (other_file journal.file) ++ commit_steps d (other_file journal.file) (length next) framed)
 
 -- how many calls they take
 abbrev pub committing_calls : Journal → Option (List ℕ) → ℕ
