@@ -1,19 +1,50 @@
+use Rattle.std.proofs.Common.{◌≡◌, None, Some, ap, subst, sym, ◌∙◌}
+use Rattle.std.specs.Option.{option_copied}
+use Rattle.re_outside.proofs.Moments.{at_end}
+use Rattle.re_compact.proofs.Commits.{IsAllOrOneMore}
+use Rattle.re_compact.proofs.Committing.{committed_throughout, left_plain, on_ok, stands_committed, throughout_more}
+use Rattle.re_compact.specs.Committing.{IsLeftBy, MayCommit}
 use Rattle.re_compact.proofs.commit.commit_record.Goals as goal
 
+-- ---- with a new snapshot
+
 pub returns-in-Some-clause-each_moment : goal.returns-in-Some-clause-each_moment
-returns-in-Some-clause-each_moment g c = ?
+returns-in-Some-clause-each_moment g c s bs None body told stands may = absurd (let none = sym (ap option_copied c.in-Some.is) ∙ may.0 in cc)
+returns-in-Some-clause-each_moment g c s bs (Some new) body told stands may =
+    c.commit_behind.ensures.each_moment s bs new body told stands (subst (λ o. MayCommit s bs (Some new) body o c.args.framed.now) (ap option_copied c.in-Some.is) may)
 
 pub returns-in-Some-clause-reads : goal.returns-in-Some-clause-reads
-returns-in-Some-clause-reads g c = ?
+returns-in-Some-clause-reads g c s bs new body told stands may =
+    let now = c.commit_behind.new.disk in
+    (at_end (g.D.Disk.past c.args.disk.now) (g.D.Disk.past now) _ (returns-in-Some-clause-each_moment g c s bs new body told stands may)).images _ _ (g.met.D.Disk.reads_left now 0 told) (g.met.D.Disk.reads_left now 1 told)
 
 pub returns-in-Some-clause-stands : goal.returns-in-Some-clause-stands
-returns-in-Some-clause-stands g c = ?
+returns-in-Some-clause-stands g c s bs None body told =
+    on_ok c.commit_behind.result _ _ (λ on stands may. absurd (let none = sym (ap option_copied c.in-Some.is) ∙ may.0 in cc)) (c.commit_behind.ensures.stands s bs c.in-Some.laid.now body told)
+returns-in-Some-clause-stands g c s bs (Some new) body told =
+    on_ok c.commit_behind.result _ _ (λ on stands may. on stands (subst (λ o. MayCommit s bs (Some new) body o c.args.framed.now) (ap option_copied c.in-Some.is) may)) (c.commit_behind.ensures.stands s bs new body told)
+
+-- ---- with none
 
 pub returns-in-None-clause-each_moment : goal.returns-in-None-clause-each_moment
-returns-in-None-clause-each_moment g c = ?
+returns-in-None-clause-each_moment g c s bs None body told stands may =
+    let j = c.args.journal.now in
+    let old = g.D.Disk.past c.args.disk.now in
+    let now = g.D.Disk.past c.append.new.disk in
+    throughout_more (IsAllOrOneMore j.file s bs body) (IsLeftBy j.file s bs None body) old now (left_plain j.file s body bs) (committed_throughout j j.file s body bs old now stands (c.append.ensures.each_moment s bs body told stands.stands may.1))
+returns-in-None-clause-each_moment g c s bs (Some new) body told stands may = absurd (let some = sym (ap option_copied c.in-None.is) ∙ may.0 in cc)
 
 pub returns-in-None-clause-reads : goal.returns-in-None-clause-reads
-returns-in-None-clause-reads g c = ?
+returns-in-None-clause-reads g c s bs new body told stands may =
+    let now = c.append.new.disk in
+    (at_end (g.D.Disk.past c.args.disk.now) (g.D.Disk.past now) _ (returns-in-None-clause-each_moment g c s bs new body told stands may)).images _ _ (g.met.D.Disk.reads_left now 0 told) (g.met.D.Disk.reads_left now 1 told)
 
 pub returns-in-None-clause-stands : goal.returns-in-None-clause-stands
-returns-in-None-clause-stands g c = ?
+returns-in-None-clause-stands g c s bs None body told =
+    let j = c.args.journal.now in
+    on_ok c.append.result _ _
+    (λ on stands may.
+    stands_committed j j.file s body bs (g.D.Disk.past c.args.disk.now) (g.D.Disk.past c.append.new.disk) stands (c.append.ensures.each_moment s bs body told stands.stands may.1) c.append.new.self c.append.ensures.file (on stands.stands may.1))
+    (c.append.ensures.stands s bs body told)
+returns-in-None-clause-stands g c s bs (Some new) body told =
+    on_ok c.append.result _ _ (λ on stands may. absurd (let some = sym (ap option_copied c.in-None.is) ∙ may.0 in cc)) (c.append.ensures.stands s bs body told)
