@@ -1,10 +1,10 @@
 -- What the two files hold while a record is committed to the journal's own one.
 use Rattle.std.specs.Int.{w32, w64, to_be_bytes}
 use Rattle.std.specs.List.{flat_map}
-use Rattle.std.proofs.Common.{◌≡◌, ◌⊎◌, inl, inr, ℕ, zero, suc, ◌+◌, ◌^◌, ◌<◌, List, [], ◌∷◌, ◌++◌, length, take, drop, refl, sym, ◌∙◌, ap, subst, arith, append_assoc, take-append-drop}
+use Rattle.std.proofs.Common.{◌≡◌, ◌⊎◌, inl, inr, ℕ, zero, suc, ◌^◌, ◌<◌, List, [], ◌∷◌, ◌++◌, length, take, drop, refl, sym, ◌∙◌, ap, subst, arith, append_assoc, take-append-drop}
 use Rattle.std.proofs.lemmas.List.{take-append-le}
 use Rattle.std.proofs.Math.Seq.{take-append_seam}
-use Rattle.re_outside.specs.Frame.{StoreFrame, Store, HasStoreFrame, HasFrame, HasGeneration, IsSnapshotLength, opened, framed}
+use Rattle.re_outside.specs.Frame.{StoreFrame, Store, HasStoreFrame, HasFrame, HasGeneration, IsSnapshotLength, opened}
 use Rattle.re_outside.specs.Moment.{Throughout, Leaves}
 use Rattle.re_outside.specs.Trace.{Past, content_of}
 use Rattle.re_outside.proofs.Frames.{split_length}

@@ -1,11 +1,11 @@
 -- A commit behind a new snapshot: the snapshot is laid, its gate is opened, and the record is committed there.
-use Rattle.std.specs.Prelude.{nat_le, if◌then◌else◌, min, Result, Ok, Err, OnOk}
+use Rattle.std.specs.Prelude.{nat_le, if◌then◌else◌, Result, Ok, Err, OnOk}
 use Rattle.std.proofs.Common.{◌≡◌, ◌⊎◌, inl, inr, ℕ, zero, suc, ◌+◌, ◌-◌, ◌^◌, ◌<◌, ◌≤◌, Bool, true, false, List, [], ◌∷◌, ◌++◌, length, Option, Some, None, refl, sym, ◌∙◌, ap, subst, arith, length-append}
 use Rattle.std.specs.List.{flat_map}
-use Rattle.re_outside.specs.Frame.{StoreFrame, Store, HasStoreFrame, HasFrame, HasGeneration, IsRecordLength, MayOpen, generation, opened, front}
+use Rattle.re_outside.specs.Frame.{StoreFrame, Store, HasStoreFrame, HasFrame, HasGeneration, IsRecordLength, MayOpen, generation, opened}
 use Rattle.re_outside.specs.Moment.{Throughout, Leaves, IsSettled, OnlyMoves}
 use Rattle.re_outside.specs.Plan.{StopsAt, WriteAt, CutAt, synced_steps}
-use Rattle.re_outside.specs.Trace.{Past, IsBefore, with_steps, content_of, elsewhere_on}
+use Rattle.re_outside.specs.Trace.{Past, with_steps, content_of, elsewhere_on}
 use Rattle.re_outside.specs.declared.step.Step.{Step}
 use Rattle.re_outside.proofs.Moments.{at_end, goes_nothing, join, weaken}
 use Rattle.re_outside.proofs.Stores.{generation_read}

@@ -15,10 +15,10 @@ use re_outside::Disk;
 
 /// Commits a record to the store on which the journal stands, behind a new snapshot where one is handed in.
 ///
-/// `next` is what `frame` gives for the new snapshot, if one is due, and `framed` what it gives for the record. A new snapshot is laid
-/// into the other file, which then counts, and the record is committed there; else it is committed behind the records that are there.
-/// It takes no memory. `Disk` comes where a call failed, and the journal has then stopped; `Stopped` where it had stopped before, with
-/// the number of that call, and then no call is made.
+/// `next` is what `frame` gives for a new snapshot of 8 to 131,072 bytes, if one is due, and `framed` what it gives for a record of 1 to
+/// 65,536 bytes. A new snapshot is laid into the other file, which then counts, and the record is committed there; else it is committed
+/// behind the records that are there. It takes no memory. `Disk` comes where a call failed, and the journal has then stopped; `Stopped`
+/// where it had stopped before, with the number of that call, and then no call is made. docs/FORMATS.md has the layout.
 ///
 /// What is said of the store is said where the journal stands on one, and the record may be committed: a new snapshot has a greater
 /// generation than the one that is there; without a new one the journal has at most 65,536 bytes, or its file the last generation.
@@ -33,7 +33,7 @@ pub fn commit_record<D: Disk>(
     ensures failed { D.tells → result ≡ Err DiskFault → StopsJournal (committing_steps (D.past disk.old).device journal.old (option_copied next.entry) framed.now) journal.old.calls journal.new.stopped (D.past disk.old) (D.past disk.new) }
     ensures cause { HasCause journal.old.stopped (D.faults disk.old) (D.faults disk.new) result }
 
-    // A stop at any moment leaves the store before the commit, the new snapshot alone, or the store after it; and so the files read, whatever failed.
+    // A stop at any moment leaves the store before it, the new snapshot alone, or the store after it; so do reads, whatever failed.
     ensures each_moment { (snapshot : List ℕ) (bodies : List (List ℕ)) (new : Option (List ℕ)) (body : List ℕ) → D.tells → StandsIn journal.old (Store journal.old.file snapshot bodies) (D.past disk.old) → MayCommit snapshot bodies new body (option_copied next.entry) framed.now → Throughout (D.past disk.old) (D.past disk.new) (Holds (IsLeftBy journal.old.file snapshot bodies new body) (D.past disk.old)) }
     ensures reads { (snapshot : List ℕ) (bodies : List (List ℕ)) (new : Option (List ℕ)) (body : List ℕ) → D.tells → StandsIn journal.old (Store journal.old.file snapshot bodies) (D.past disk.old) → MayCommit snapshot bodies new body (option_copied next.entry) framed.now → ReadAs (IsLeftBy journal.old.file snapshot bodies new body) (D.past disk.new) }
     ensures stands { (snapshot : List ℕ) (bodies : List (List ℕ)) (new : Option (List ℕ)) (body : List ℕ) → D.tells → OnOk result (StandsIn journal.old (Store journal.old.file snapshot bodies) (D.past disk.old) → MayCommit snapshot bodies new body (option_copied next.entry) framed.now → StandsIn journal.new (store_after journal.old.file snapshot bodies new body) (D.past disk.new)) }

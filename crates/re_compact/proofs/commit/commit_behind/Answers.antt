@@ -1,12 +1,11 @@
 -- The three calls, one behind the other.
-use Rattle.std.proofs.Common.{◌≡◌, ◌+◌, [], ◌∷◌, ◌++◌, List, length, Some, Err, ap, subst, sym, ◌∙◌, refl, rules, arith}
+use Rattle.std.proofs.Common.{◌≡◌, [], ◌∷◌, ◌++◌, length, Some, Err, ap, subst, rules}
 use Rattle.re_outside.specs.Frame.{Store}
-use Rattle.re_outside.specs.Moment.{Throughout}
 use Rattle.re_journal.specs.Commits.{commit_steps}
 use Rattle.re_journal.specs.Journals.{frame_of, other_file}
 use Rattle.re_journal.specs.declared.fault.JournalFault.TheVariants.{Disk as DiskFault}
 use Rattle.re_compact.specs.Laying.{laying_calls, prepare_steps, publish_steps}
-use Rattle.re_compact.specs.Pair.{Holds, IsOldOrNew, StandsIn}
+use Rattle.re_compact.specs.Pair.{StandsIn}
 use Rattle.re_compact.specs.Committing.{IsLeftBy}
 use Rattle.re_compact.proofs.Committing.{committed_throughout, left_old, may_begin, may_replace, on_ok, opening_moments, opening_stop, opening_stops, record_moments, record_stop, record_stops, stands_committed, stops_in_front, throughout_more}
 use Rattle.re_compact.proofs.commit.commit_behind.Goals as goal

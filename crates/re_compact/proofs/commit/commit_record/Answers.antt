@@ -1,4 +1,4 @@
-use Rattle.std.proofs.Common.{◌≡◌, None, Some, ap, subst, sym, ◌∙◌}
+use Rattle.std.proofs.Common.{None, Some, ap, subst, sym, ◌∙◌}
 use Rattle.std.specs.Option.{option_copied}
 use Rattle.re_outside.proofs.Moments.{at_end}
 use Rattle.re_compact.proofs.Commits.{IsAllOrOneMore}
