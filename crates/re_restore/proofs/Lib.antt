@@ -4,4 +4,5 @@ pub mod Opened
 pub mod Placing
 pub mod Refused
 pub mod Replayed
+pub mod RestoreSteps
 pub mod StillOpening
