@@ -1,3 +1,4 @@
+pub mod Decided
 pub mod Laid
 pub mod OneEntry
 pub mod Opened

@@ -1,6 +1,6 @@
 -- What opening the files of a device gives, and what it does there.
 -- Read against: with `device a; var x: int = 0;` two blank files of no bytes open to x = 0 and the number 0 by two syncs and six calls on file 0, after which this file has 76 bytes; a stop within leaves files that open to the same. Two files that hold a store open by the two syncs alone.
-use Rattle.std.specs.Prelude.{◌≡◌, ◌⊎◌, ℕ, ◌<◌, ◌^◌, ◌&&◌, Bool, true, if◌then◌else◌, List, [], ◌++◌, length, Result, Ok, Err}
+use Rattle.std.specs.Prelude.{◌≡◌, ◌⊎◌, ℕ, ◌<◌, ◌^◌, ◌&&◌, Bool, true, if◌then◌else◌, List, [], ◌++◌, length, Some, Result, Ok, Err}
 use Rattle.re_outside.specs.Frame as frame
 use Rattle.re_outside.specs.Frame.{IsGeneration, is_blank}
 use Rattle.re_outside.specs.Moment.{OnlyDeviceMoves}
@@ -16,6 +16,7 @@ use Rattle.re_compact.specs.declared.fault.OpenFault.{OpenFault}
 use Rattle.re_compact.specs.declared.fault.OpenFault.TheVariants.{Memory, Disk, BadStore, OtherProgram}
 use Rattle.re_record.specs.Restoring.{Opened, unopened}
 use Rattle.re_record.specs.Spellings.{snapshot_bytes}
+use Rattle.re_record.specs.Stores as stores
 use Rattle.re_record.specs.Stores.{OpensTo}
 use Rattle.re_restore.specs.Reading.{ComesTo}
 use Rattle.re_restore.specs.declared.opening.Restored.{Restored}
@@ -88,6 +89,14 @@ pub record StillOpens (p : Program) (device : ℕ) (old now : Past) : Type 0 whe
   pub images : (first second : List ℕ) → IsCrashImageOf now 0 first → IsCrashImageOf now 1 second
       → (IsCrashImageOf old 0 first × IsCrashImageOf old 1 second) ⊎ (AreBlank old × OpensTo p device first second (unopened p))
   pub others : OnlyDeviceMoves old now
+
+-- the answer is that of files that are this, but where a call of the disk failed or there was no memory
+abbrev pub IsAnswerTo : Program → ℕ → stores.Stored → Result Restored OpenFault → Type 0
+IsAnswerTo p device stored (Ok r) = stores.opened p device stored ≡ Some (opened_as r)
+IsAnswerTo p device stored (Err Memory) = Unit {0}
+IsAnswerTo p device stored (Err Disk) = Unit {0}
+IsAnswerTo p device stored (Err (BadStore file at)) = stored ≡ stores.Bad file at
+IsAnswerTo p device stored (Err OtherProgram) = stored ≡ stores.OtherProgram
 
 -- the disk failed in the call where that is the refusal, and not otherwise
 abbrev pub HasRestoreCause : {T : Type 0} → ℕ → ℕ → Result T OpenFault → Type 0

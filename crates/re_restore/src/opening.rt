@@ -16,7 +16,7 @@ ghost use Rattle.re_prop.specs.Caching.{signal_words};
 ghost use Rattle.re_record.specs.Restoring.{unopened};
 ghost use Rattle.re_record.specs.Snapshots.{HasOtherText};
 ghost use Rattle.re_record.specs.Stores.{HasStore, OpensTo, Stored};
-ghost use Rattle.re_restore.specs.Opening.{HasPlannedSteps, HasRestoreCause, HasRestoreSteps, IsRestoredOf, StandsOpened, StillOpens, StopsIn, lay_steps, opened_as, start_snapshot};
+ghost use Rattle.re_restore.specs.Opening.{HasPlannedSteps, HasRestoreCause, HasRestoreSteps, IsAnswerTo, IsRestoredOf, StandsOpened, StillOpens, StopsIn, lay_steps, opened_as, start_snapshot};
 ghost use Rattle.re_restore.specs.Reading.{ComesTo, IsRefusedStore};
 ghost use Rattle.re_restore.specs.Refusals.{refusal_in};
 ghost use Rattle.re_terms.specs.Admission.{device_count};
@@ -233,6 +233,9 @@ pub fn restore<D: Disk>(
 
     ensures bad { (file at : ℕ) → D.tells → result ≡ Err (BadStore file at) → HasStore p.now device (content_of (D.past disk.old) 0) (content_of (D.past disk.old) 1) (Stored.Bad file at) }
     ensures other { D.tells → result ≡ Err OtherProgram → HasStore p.now device (content_of (D.past disk.old) 0) (content_of (D.past disk.old) 1) Stored.OtherProgram }
+    // What the files hold decides the answer, unless the disk fails or memory runs out.
+    ensures decided { (stored : Stored) → D.tells → HasStore p.now device (content_of (D.past disk.old) 0) (content_of (D.past disk.old) 1) stored → IsAnswerTo p.now device stored result }
+
     ensures cause { HasRestoreCause (D.faults disk.old) (D.faults disk.new) result }
     ensures device { (D.past disk.new).device ≡ (D.past disk.old).device }
     ensures rest { D.rest disk.new ≡ D.rest disk.old }
