@@ -1,9 +1,10 @@
 //! The commit of a record, and what a journal tells of itself.
 ghost use Rattle.std.specs.Prelude.{◌≡◌, ◌⊎◌, ◌+◌, ◌-◌, ◌<◌, ◌≤◌, ◌^◌, ◌++◌, [], ◌∷◌, List, ℕ, None, Some, Err, length, IfOk, IfSome, OnOk, OnErr, MatchResult};
+ghost use Rattle.re_outside.specs.Frame.{journal_bytes};
 ghost use Rattle.re_outside.specs.Listed.{plain};
 ghost use Rattle.re_outside.specs.Moment.{Throughout, Leaves};
 ghost use Rattle.re_outside.specs.Outside.{Rose};
-ghost use Rattle.re_outside.specs.Trace.{with_steps, content_of};
+ghost use Rattle.re_outside.specs.Trace.{Past, with_steps, content_of};
 ghost use Rattle.re_journal.specs.Commits.{commit_steps, StopsJournal, StopsInTurn, IsStopOf, IsStopInTurn, HasCause};
 ghost use Rattle.re_journal.specs.Journals.{calls_after, frame_of, StandsOn, MayFollow, HasAllOrOneMore, Commits};
 ghost use Rattle.re_journal.specs.declared.fault.JournalFault.TheVariants.{Disk as DiskFault, Stopped};
@@ -36,7 +37,8 @@ impl Journal {
     ///
     /// It has none where that gate is the closed one, and none where its file is blank.
     pub fn bytes(&self) -> u64
-        ensures { result ≡ self.now.gate - self.now.start - 1 }
+        ensures gates { result ≡ self.now.gate - self.now.start - 1 }
+        ensures records { (snapshot : List ℕ) (bodies : List (List ℕ)) (past : Past) → StandsOn self.now snapshot bodies past → result ≡ journal_bytes bodies }
     {
         self.gate.saturating_sub(self.start).saturating_sub(1)
     }

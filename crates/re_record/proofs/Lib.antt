@@ -4,6 +4,7 @@ pub mod BehindGates
 pub mod Examples
 pub mod KeptWords
 pub mod LoggedLengths
+pub mod OneStore
 pub mod PutLists
 pub mod RecordLaws
 pub mod Roles

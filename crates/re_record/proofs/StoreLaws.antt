@@ -94,7 +94,7 @@ records_more p device o (body ∷ bodies) entries next (first, others, split, fi
 
 -- ---- one opening
 
-same_entries : (p : Program) (device : ℕ) (o : Opened) (bodies : List (List ℕ)) (entries others : List Logged) → IsProgram p → AreRecordsOf p device o bodies entries → AreRecordsOf p device o bodies others → entries ≡ others
+pub same_entries : (p : Program) (device : ℕ) (o : Opened) (bodies : List (List ℕ)) (entries others : List Logged) → IsProgram p → AreRecordsOf p device o bodies entries → AreRecordsOf p device o bodies others → entries ≡ others
 same_entries p device o [] entries others is_program e f = e ∙ sym f
 same_entries p device o (body ∷ bodies) entries others is_program (first, rest, split, is, whole, taken, more) (second, last, parted, fits, all, accepted, further) =
     let a : record_at p (shape_of p) body ≡ Ok (plain first) = record_there p body first is_program is whole in
@@ -105,7 +105,7 @@ same_entries p device o (body ∷ bodies) entries others is_program (first, rest
     let behind = same_entries p device (after_all p device first o) bodies rest last is_program more others_are in
     split ∙ (λ i. same i ++ behind i) ∙ sym parted
 
-same_snapshot : (p : Program) (device : ℕ) (body : List ℕ) (s t : Snapshot) → IsProgram p → device < 256 → length body < 2 ^ 32 → HasSnapshot p device body s → HasSnapshot p device body t → s ≡ t
+pub same_snapshot : (p : Program) (device : ℕ) (body : List ℕ) (s t : Snapshot) → IsProgram p → device < 256 → length body < 2 ^ 32 → HasSnapshot p device body s → HasSnapshot p device body t → s ≡ t
 same_snapshot p device body s t is_program small limit a b =
     let c = snapshot_there p device s.number body s.state is_program small limit a.0 a.1 in
     let d = snapshot_there p device t.number body t.state is_program small limit b.0 b.1 in

@@ -39,7 +39,7 @@ pub fn record_law()
 ///
 /// A file of a snapshot and records, each behind an open gate, opens to the snapshot's state with the entries done in order,
 /// where it counts: whichever closed gate and whatever bytes stand behind them. One record more, whose entries no limit
-/// refuses, opens to these entries done too. Two files open to one state and entry number alone.
+/// refuses, opens to these entries done too. Two files are one thing alone, so that they open to one state and entry number.
 pub fn store_law()
     ensures first { (p : Program) (device g : ℕ) (s : Snapshot) (bodies : List (List ℕ)) (rest second : List ℕ) (entries : List Logged) → IsProgram p → length (program_text p) ≤ 65536 → IsGeneration g → IsSnapshotOf p s.number s.state → AreRecords bodies → MayBeOpened g bodies → IsClosed rest → IsOlder second g → AreRecordsOf p device (laid s) bodies entries → OpensTo p device (front (snapshot_bytes p device g s.number s.state) bodies ++ rest) second (after_all p device entries (laid s)) }
     ensures second { (p : Program) (device g : ℕ) (s : Snapshot) (bodies : List (List ℕ)) (rest first : List ℕ) (entries : List Logged) → IsProgram p → length (program_text p) ≤ 65536 → IsGeneration g → IsSnapshotOf p s.number s.state → AreRecords bodies → MayBeOpened g bodies → IsClosed rest → IsOlder first g → AreRecordsOf p device (laid s) bodies entries → OpensTo p device first (front (snapshot_bytes p device g s.number s.state) bodies ++ rest) (after_all p device entries (laid s)) }
@@ -48,5 +48,7 @@ pub fn store_law()
     // Bytes from the first closed gate of the file that counts on don't matter, as long as a closed gate stands there.
     ensures behind_first { (p : Program) (device : ℕ) (body : List ℕ) (bodies : List (List ℕ)) (rest other second : List ℕ) (x : Stored) → HasStoreFrame (front body bodies ++ rest) second (Store 0 body bodies) → IsClosed other → HasStore p device (front body bodies ++ rest) second x → HasStore p device (front body bodies ++ other) second x }
     ensures behind_second { (p : Program) (device : ℕ) (body : List ℕ) (bodies : List (List ℕ)) (rest other first : List ℕ) (x : Stored) → HasStoreFrame first (front body bodies ++ rest) (Store 1 body bodies) → IsClosed other → HasStore p device first (front body bodies ++ rest) x → HasStore p device first (front body bodies ++ other) x }
+    // Two files are one thing alone: blank, refused at one place of one file, another program's, or one store.
+    ensures only { (p : Program) (device : ℕ) (first second : List ℕ) (x y : Stored) → IsProgram p → device < 256 → HasStore p device first second x → HasStore p device first second y → x ≡ y }
     ensures one { (p : Program) (device : ℕ) (first second : List ℕ) (o other : Opened) → IsProgram p → device < 256 → OpensTo p device first second o → OpensTo p device first second other → o ≡ other }
 {}

@@ -1,21 +1,19 @@
 -- The first snapshot of a program: that it is one, and what two files hold while it is laid.
-use Rattle.std.proofs.Common.{◌≡◌, ◌⊎◌, inl, inr, ◌<◌, ◌≤◌, ◌^◌, ◌++◌, ◌∷◌, [], ℕ, zero, suc, List, Result, Ok, Err, length, map, get_or, refl, sym, ap, subst, ◌∙◌, append_assoc, arith}
+use Rattle.std.proofs.Common.{◌≡◌, inl, ◌≤◌, ◌++◌, ◌∷◌, [], ℕ, zero, suc, List, Result, Ok, Err, length, refl, sym, ap, subst, ◌∙◌, append_assoc, arith}
 use Rattle.std.specs.Int.{w64, to_be_bytes}
 use Rattle.std.specs.List.{All}
 use Rattle.std.specs.Prelude.{OnOk}
-use Rattle.re_outside.specs.Frame.{AreRecords, Bad, Blank, IsGeneration, Store, StoreFrame, is_blank}
+use Rattle.re_outside.specs.Frame.{AreRecords, Bad, Blank, IsGeneration, Store, StoreFrame}
 use Rattle.re_outside.specs.Listed.{Listed}
 use Rattle.re_outside.specs.Moment.{Throughout}
 use Rattle.re_outside.specs.Trace.{Past, content_of, elsewhere_on}
 use Rattle.re_outside.proofs.Moments.{at_end, join, weaken}
-use Rattle.re_journal.specs.Journals.{StandsOn, StandsOnBlank}
 use Rattle.re_journal.specs.Scans.{all_bytes}
 use Rattle.re_journal.specs.declared.journal.Journal.{Journal}
 use Rattle.re_compact.specs.Laying.{IsSnapshot}
 use Rattle.re_compact.specs.Pair.{Holds, IsOldOrNew, MayReplace, StandsIn, StandsOnFrame}
 use Rattle.re_print.specs.Canonical.{program_text}
 use Rattle.re_record.specs.Logs.{IsSnapshotOf}
-use Rattle.re_record.specs.Stores.{HasSnapshot}
 use Rattle.re_record.specs.Spellings.{head_bytes, kept_bytes, owner_bytes, snapshot_bytes, text_bytes}
 use Rattle.re_record.proofs.LoggedLengths.{generation_is, snapshot_long, snapshot_some}
 use Rattle.re_record.specs.Restoring.{unopened}

@@ -1,5 +1,5 @@
 -- What an entry of a program does to a replay of it.
-use Rattle.std.proofs.Common.{◌≡◌, List, length, ap, subst, sym, ◌∙◌, true}
+use Rattle.std.proofs.Common.{◌≡◌, List, subst, sym, true}
 use Rattle.std.specs.List.{list_all}
 use Rattle.re_terms.specs.Admission.{IsEntryOf}
 use Rattle.re_terms.specs.Changes.{with_changes}

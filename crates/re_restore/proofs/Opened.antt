@@ -1,15 +1,11 @@
 -- To what two files open, by what was found in them.
-use Rattle.std.proofs.Common.{◌≡◌, ◌⊎◌, inl, inr, ℕ, List, [], Some, refl, sym, ap, subst, ◌∙◌, arith}
-use Rattle.std.specs.List.{All}
+use Rattle.std.proofs.Common.{inl, inr, ℕ, List, Some, refl, sym, ap}
 use Rattle.re_outside.specs.Frame as frame
 use Rattle.re_outside.specs.Frame.{HasStoreFrame}
-use Rattle.re_print.specs.Canonical.{program_text}
 use Rattle.re_record.specs.Restoring.{Opened, unopened}
 use Rattle.re_record.specs.Snapshots.{HasOtherText}
 use Rattle.re_record.specs.Stores.{Bad, Blank, HasStore, OpensTo, OtherProgram, Store}
-use Rattle.re_terms.specs.Programs.{IsProgram}
 use Rattle.re_terms.specs.declared.program.Program.{Program}
-use Rattle.re_restore.specs.Opening.{start_snapshot}
 use Rattle.re_restore.specs.Reading.{ComesTo, IsRefusedStore}
 
 -- a store opens to what its snapshot and records come to

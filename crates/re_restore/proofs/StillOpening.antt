@@ -1,5 +1,5 @@
 -- What a stop leaves of the files while they are opened.
-use Rattle.std.proofs.Common.{◌≡◌, ◌⊎◌, inl, inr, ℕ, List, [], refl, sym, ap, subst, ◌∙◌}
+use Rattle.std.proofs.Common.{◌≡◌, inl, inr, ℕ, List, [], refl, ap, subst, ◌∙◌}
 use Rattle.re_outside.specs.Frame as frame
 use Rattle.re_outside.specs.Frame.{HasStoreFrame, StoreFrame}
 use Rattle.re_outside.specs.Moment.{Throughout}

@@ -3,11 +3,11 @@ ghost use Rattle.std.specs.Prelude.{◌≡◌, ◌⊎◌, ◌<◌, ◌≤◌, �
 ghost use Rattle.re_outside.specs.Frame.{IsGeneration, StoreFrame, Blank, Store};
 ghost use Rattle.re_outside.specs.Moment.{Throughout};
 ghost use Rattle.re_outside.specs.Trace.{content_of, with_steps};
-ghost use Rattle.re_journal.specs.Commits.{HasCause, StopsJournal};
+ghost use Rattle.re_journal.specs.Commits.{HasCause};
 ghost use Rattle.re_journal.specs.Journals.{frame_of, other_file};
 ghost use Rattle.re_journal.specs.Scans.{IsFramed, all_bytes};
 ghost use Rattle.re_journal.specs.declared.fault.JournalFault.TheVariants.{Disk as DiskFault};
-ghost use Rattle.re_compact.specs.Laying.{IsSnapshot, prepare_steps, publish_steps};
+ghost use Rattle.re_compact.specs.Laying.{IsSnapshot};
 ghost use Rattle.re_compact.specs.Pair.{Holds, IsOldOrNew, StandsIn};
 ghost use Rattle.re_compact.specs.declared.fault.OpenFault.{OpenFault as TheFault};
 ghost use Rattle.re_compact.specs.declared.fault.OpenFault.TheVariants.{BadStore, Disk as DiskRefusal, Memory as MemoryRefusal, OtherProgram};
@@ -16,7 +16,7 @@ ghost use Rattle.re_prop.specs.Caching.{signal_words};
 ghost use Rattle.re_record.specs.Restoring.{unopened};
 ghost use Rattle.re_record.specs.Snapshots.{HasOtherText};
 ghost use Rattle.re_record.specs.Stores.{HasStore, OpensTo, Stored};
-ghost use Rattle.re_restore.specs.Opening.{HasRestoreCause, IsRestoredOf, StandsOpened, StillOpens, opened_as, start_snapshot};
+ghost use Rattle.re_restore.specs.Opening.{HasPlannedSteps, HasRestoreCause, HasRestoreSteps, IsAnswerTo, IsRestoredOf, StandsOpened, StillOpens, StopsIn, lay_steps, opened_as, start_snapshot};
 ghost use Rattle.re_restore.specs.Reading.{ComesTo, IsRefusedStore};
 ghost use Rattle.re_restore.specs.Refusals.{refusal_in};
 ghost use Rattle.re_terms.specs.Admission.{device_count};
@@ -139,7 +139,8 @@ fn open_found(
 /// Lays a snapshot into the other file and opens its gate.
 fn lay<D: Disk>(journal: &mut Journal, disk: &mut D, framed: &[u8]) -> Result<(), JournalFault>
     requires { journal.old.stopped ≡ None }
-    ensures done { D.tells → OnOk result (D.past disk.new ≡ with_steps (D.past disk.old) (prepare_steps (D.past disk.old).device (other_file journal.old.file) journal.old.other_blank journal.old.other_length framed.now ++ publish_steps (D.past disk.old).device (other_file journal.old.file))) }
+    ensures done { D.tells → OnOk result (D.past disk.new ≡ with_steps (D.past disk.old) (lay_steps (D.past disk.old).device (other_file journal.old.file) journal.old.other_blank journal.old.other_length framed.now)) }
+    ensures failed { D.tells → OnErr result (StopsIn (lay_steps (D.past disk.old).device (other_file journal.old.file) journal.old.other_blank journal.old.other_length framed.now) (D.past disk.old) (D.past disk.new)) }
     ensures cause { HasCause None (D.faults disk.old) (D.faults disk.new) result }
     ensures each_moment { (snapshot : List ℕ) → D.tells → StandsIn journal.old Blank (D.past disk.old) → framed.now ≡ frame_of snapshot → IsSnapshot snapshot 1 → Throughout (D.past disk.old) (D.past disk.new) (Holds (IsOldOrNew Blank (other_file journal.old.file) snapshot) (D.past disk.old)) }
     ensures stands { (snapshot : List ℕ) → D.tells → OnOk result (StandsIn journal.old Blank (D.past disk.old) → framed.now ≡ frame_of snapshot → IsSnapshot snapshot 1 → StandsIn journal.new (Store (other_file journal.old.file) snapshot []) (D.past disk.new)) }
@@ -171,6 +172,7 @@ fn open_blank<D: Disk>(
     ensures running { IfOk result (λ r. (r.journal.calls ≡ 0) × (r.journal.stopped ≡ None)) }
     ensures stands { D.tells → IfOk result (λ r. StandsIn journal Blank (D.past disk.old) → StandsIn r.journal (Store (other_file journal.file) (start_snapshot p.now device) []) (D.past disk.new)) }
     ensures each_moment { D.tells → StandsIn journal Blank (D.past disk.old) → Throughout (D.past disk.old) (D.past disk.new) (Holds (IsOldOrNew Blank (other_file journal.file) (start_snapshot p.now device)) (D.past disk.old)) }
+    ensures steps { D.tells → HasPlannedSteps (lay_steps (D.past disk.old).device (other_file journal.file) journal.other_blank journal.other_length (frame_of (start_snapshot p.now device))) (D.past disk.old) (D.past disk.new) result }
     ensures refused { (fault : TheFault) → result ≡ Err fault → (fault ≡ MemoryRefusal) ⊎ (fault ≡ DiskRefusal) }
     ensures cause { HasRestoreCause (D.faults disk.old) (D.faults disk.new) result }
     ensures device { (D.past disk.new).device ≡ (D.past disk.old).device }
@@ -226,8 +228,14 @@ pub fn restore<D: Disk>(
     // A stop at any moment leaves what one could have left before, or files that open to the start, where both were blank.
     ensures each_moment { D.tells → Throughout (D.past disk.old) (D.past disk.new) (StillOpens p.now device (D.past disk.old)) }
 
+    // The two syncs, where both files are blank the laying behind them, and no other step, up to the first call that failed.
+    ensures steps { D.tells → HasRestoreSteps p.now device (D.past disk.old) (D.past disk.new) result }
+
     ensures bad { (file at : ℕ) → D.tells → result ≡ Err (BadStore file at) → HasStore p.now device (content_of (D.past disk.old) 0) (content_of (D.past disk.old) 1) (Stored.Bad file at) }
     ensures other { D.tells → result ≡ Err OtherProgram → HasStore p.now device (content_of (D.past disk.old) 0) (content_of (D.past disk.old) 1) Stored.OtherProgram }
+    // What the files hold decides the answer, unless the disk fails or memory runs out.
+    ensures decided { (stored : Stored) → D.tells → HasStore p.now device (content_of (D.past disk.old) 0) (content_of (D.past disk.old) 1) stored → IsAnswerTo p.now device stored result }
+
     ensures cause { HasRestoreCause (D.faults disk.old) (D.faults disk.new) result }
     ensures device { (D.past disk.new).device ≡ (D.past disk.old).device }
     ensures rest { D.rest disk.new ≡ D.rest disk.old }

@@ -1,4 +1,5 @@
 use Rattle.re_record.proofs.BehindGates.{behind_first, behind_second}
+use Rattle.re_record.proofs.OneStore.{one_stored}
 use Rattle.re_record.proofs.StoreLaws.{first_opens, second_opens, records_more, after_more, one_opening}
 use Rattle.re_record.proofs.laws.store_law.Goals as goal
 
@@ -11,5 +12,6 @@ returns c =
       done = after_more;
       behind_first = behind_first;
       behind_second = behind_second;
+      only = λ p device first second x y is small a b. one_stored p device is small first second x y a b;
       one = one_opening;
     }

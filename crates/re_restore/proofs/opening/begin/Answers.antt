@@ -1,5 +1,5 @@
 -- The start is a state of the program, and its snapshot is short.
-use Rattle.std.proofs.Common.{◌≡◌, length, ap, subst, sym, ◌∙◌, arith}
+use Rattle.std.proofs.Common.{length, ap, subst, sym, ◌∙◌, arith}
 use Rattle.re_terms.specs.Shapes.{FitsShape, shape_of}
 use Rattle.re_terms.specs.WordKinds.{IsStateOf}
 use Rattle.re_terms.proofs.StatesKept.{start_is}

@@ -1,10 +1,11 @@
 -- The start, laid into file 0.
-use Rattle.std.proofs.Common.{◌≡◌, [], ap, subst, sym, ◌∙◌, arith}
+use Rattle.std.proofs.Common.{ℕ, List, [], ap, subst, sym, ◌∙◌, arith}
 use Rattle.re_outside.specs.Frame.{Store}
+use Rattle.re_outside.specs.Trace.{with_steps}
 use Rattle.re_journal.specs.Journals.{other_file}
 use Rattle.re_terms.specs.WordKinds.{IsStateOf}
 use Rattle.re_terms.proofs.StatesKept.{start_is}
-use Rattle.re_restore.specs.Opening.{start_snapshot}
+use Rattle.re_restore.specs.Opening.{StopsIn, lay_steps, start_snapshot}
 use Rattle.re_restore.proofs.Laid.{stands_anew, start_is_snapshot}
 use Rattle.re_restore.proofs.StillOpening.{not_laid}
 use Rattle.re_restore.proofs.opening.open_blank.Goals as goal
@@ -32,3 +33,15 @@ returns-in-Err-clause-each_moment g c tells stands =
 pub returns-clause-each_moment : goal.returns-clause-each_moment
 returns-clause-each_moment g c tells stands =
     c.lay.ensures.each_moment (start_snapshot c.args.p.now c.args.device) tells stands (c.as_slice.ensures ∙ c.in-Ok.ensures.framed) (start_is_snapshot c.args.p.now c.args.device c.requires.program c.requires.text)
+
+pub returns-in-Err-clause-steps : goal.returns-in-Err-clause-steps
+returns-in-Err-clause-steps g c tells =
+    let j = c.args.journal in
+    let old = g.D.Disk.past c.args.disk.now in
+    subst (λ (l : List ℕ). StopsIn (lay_steps old.device (other_file j.file) j.other_blank j.other_length l) old (g.D.Disk.past c.lay.new.disk)) (c.as_slice.ensures ∙ c.in-Ok.ensures.framed) (c.in-Err.ensures.failed tells)
+
+pub returns-clause-steps : goal.returns-clause-steps
+returns-clause-steps g c tells =
+    let j = c.args.journal in
+    let old = g.D.Disk.past c.args.disk.now in
+    c.in-Ok-lay.ensures.done tells ∙ ap (λ (l : List ℕ). with_steps old (lay_steps old.device (other_file j.file) j.other_blank j.other_length l)) (c.as_slice.ensures ∙ c.in-Ok.ensures.framed)

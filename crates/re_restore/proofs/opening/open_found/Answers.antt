@@ -1,5 +1,5 @@
 -- Each record that was found is short.
-use Rattle.std.proofs.Common.{◌≡◌, ◌≤◌, ℕ, List, length, subst, sym}
+use Rattle.std.proofs.Common.{◌≤◌, ℕ, List, length, subst, sym}
 use Rattle.std.specs.List.{All}
 use Rattle.re_outside.specs.Listed.{Listed}
 use Rattle.re_restore.proofs.Laid.{records_short}

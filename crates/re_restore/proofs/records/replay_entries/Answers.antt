@@ -1,5 +1,5 @@
 -- One entry more is done, or it is the first that is refused.
-use Rattle.std.proofs.Common.{◌≡◌, ℕ, true, false, List, Some, Ok, Err, take, subst, sym, ap, refl, ◌∙◌, arith}
+use Rattle.std.proofs.Common.{◌≡◌, ℕ, true, false, Err, take, subst, ap, ◌∙◌}
 use Rattle.re_record.specs.Restoring.{IsFirstRefused, is_refused, opened_after}
 use Rattle.re_terms.specs.declared.entry.Logged.{Logged}
 use Rattle.re_restore.specs.Replaying.{replayed}

@@ -1,5 +1,5 @@
 -- One record more is done, or it is refused.
-use Rattle.std.proofs.Common.{◌≡◌, ◌<◌, ◌^◌, ◌+◌, ◌++◌, ◌∷◌, [], ℕ, Result, Err, List, length, get_or, take, drop, subst, sym, ap, refl, ◌∙◌, arith}
+use Rattle.std.proofs.Common.{◌≡◌, ◌<◌, ◌^◌, ◌+◌, [], ℕ, Result, Err, List, length, get_or, take, drop, subst, sym, ap, refl, ◌∙◌, arith}
 use Rattle.std.specs.List.{flat_map}
 use Rattle.re_outside.specs.Frame.{opened}
 use Rattle.re_outside.specs.Listed.{Listed}

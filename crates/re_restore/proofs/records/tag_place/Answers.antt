@@ -1,5 +1,5 @@
 -- The entries before it, as a record of their own, end where its tag stands.
-use Rattle.std.proofs.Common.{◌≡◌, ◌≤◌, List, subst, sym, ap, ◌∙◌, arith}
+use Rattle.std.proofs.Common.{List, subst, sym, ap, ◌∙◌, arith}
 use Rattle.re_outside.specs.Listed.{plain}
 use Rattle.re_record.specs.Logs.{IsRecord}
 use Rattle.re_record.specs.Spellings.{record_bytes}

@@ -1,5 +1,5 @@
 -- A place that is refused is one of the snapshot, or of a record behind it.
-use Rattle.std.proofs.Common.{◌≡◌, ◌+◌, ℕ, length, Err, refl, sym, ap, subst, ◌∙◌, arith}
+use Rattle.std.proofs.Common.{◌+◌, ℕ, length, Err, refl, ap, subst}
 use Rattle.re_record.specs.Restoring.{Opened}
 use Rattle.re_restore.specs.Replaying.{HasRefusedRecord, items_of, replayed}
 use Rattle.re_restore.proofs.Refused.{refused_snapshot, refused_record}

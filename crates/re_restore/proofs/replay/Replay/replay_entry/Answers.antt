@@ -1,7 +1,6 @@
 -- An entry of the program may be done, and its changes have their places.
-use Rattle.std.proofs.Common.{◌≡◌, List, true, ap, subst, sym, ◌∙◌, arith}
+use Rattle.std.proofs.Common.{◌≡◌, List, true, ap, subst, sym, ◌∙◌}
 use Rattle.std.specs.List.{list_all}
-use Rattle.re_terms.specs.Listed.{Listed}
 use Rattle.re_terms.specs.WordKinds.{is_change_of}
 use Rattle.re_terms.specs.declared.entry.Put.{Put}
 use Rattle.re_restore.proofs.OneEntry.{takes_in, words_kept}
