@@ -5,7 +5,7 @@ use Rattle.std.specs.List.{flat_map}
 use Rattle.std.proofs.lemmas.Bool.{lt-ltb, le-ltb, ltb-true}
 use Rattle.std.proofs.lemmas.List.{append_cancel_right}
 use Rattle.re_outside.specs.Outside.{Seen, Input, Output, Counts, Does, none}
-use Rattle.re_tool.specs.Worlds.{start_world}
+use Rattle.re_terms.specs.DeviceWorlds.{blank_world}
 use Rattle.re_tool.specs.declared.words.Job.{Job}
 use Rattle.re_tool.specs.declared.words.Job.TheVariants as job
 use Rattle.re_tool.specs.declared.faults.Refusal.{Refusal}
@@ -27,13 +27,13 @@ abbrev status_of : Job → Verdict → List ℕ → Bool → Status
 status_of j v read failed = status_at (ending_of j v read failed)
 
 -- how the answers end
-answers_end : (j : Job) (v : Verdict) (read : List ℕ) (o : Outcomes) → ((answers j v start_world read o).1 ≡ NoMemory) ⊎ ((answers j v start_world read o).1 ≡ ending_of j v read o.input_failed)
+answers_end : (j : Job) (v : Verdict) (read : List ℕ) (o : Outcomes) → ((answers j v blank_world read o).1 ≡ NoMemory) ⊎ ((answers j v blank_world read o).1 ≡ ending_of j v read o.input_failed)
 answers_end j v read o =
-    elim o.stopped as (λ x. ((answers_by x j v start_world read o.commands o.input_failed).1 ≡ NoMemory) ⊎ ((answers_by x j v start_world read o.commands o.input_failed).1 ≡ ending_of j v read o.input_failed))
+    elim o.stopped as (λ x. ((answers_by x j v blank_world read o.commands o.input_failed).1 ≡ NoMemory) ⊎ ((answers_by x j v blank_world read o.commands o.input_failed).1 ≡ ending_of j v read o.input_failed))
     [ None ↦ inr refl | Some p ↦ inl refl ]
 
 -- what the status of a run is
-told_status : (j : Job) (a b : Seen) (s : Status) (r : Runs j a b s) → (s ≡ status.Output) ⊎ (status_at (answers j r.verdict start_world r.read r.outcomes).1 ≡ s)
+told_status : (j : Job) (a b : Seen) (s : Status) (r : Runs j a b s) → (s ≡ status.Output) ⊎ (status_at (answers j r.verdict blank_world r.read r.outcomes).1 ≡ s)
 told_status j a b status.Output r = inl refl
 told_status j a b status.Done r = inr r.tells.1
 told_status j a b status.Words r = inr r.tells.1
@@ -53,7 +53,7 @@ joined x y s (inr k) (inr h) = inl (sym h ∙ ap status_at k)
 
 -- a run ends with the status of what it read, unless memory or output ended it
 ends_with : (j : Job) (a b : Seen) (s : Status) (r : Runs j a b s) → IsUnlessEnded (status_of j r.verdict r.read r.outcomes.input_failed) s
-ends_with j a b s r = joined (answers j r.verdict start_world r.read r.outcomes).1 (ending_of j r.verdict r.read r.outcomes.input_failed) s (answers_end j r.verdict r.read r.outcomes) (told_status j a b s r)
+ends_with j a b s r = joined (answers j r.verdict blank_world r.read r.outcomes).1 (ending_of j r.verdict r.read r.outcomes.input_failed) s (answers_end j r.verdict r.read r.outcomes) (told_status j a b s r)
 
 -- the status is that of what was read where it is neither for want of memory nor of output
 status_read : (j : Job) (a b : Seen) (s : Status) (r : Runs j a b s) → (s ≡ status.Memory → ⊥) → (s ≡ status.Output → ⊥) → status_of j r.verdict r.read r.outcomes.input_failed ≡ s
@@ -227,8 +227,8 @@ at_program j a b r t =
     }
 
 -- a run that stopped before its first line ends for want of memory, unless the output failed
-stopped_status : (j : Job) (v : Verdict) (read : List ℕ) (o : Outcomes) (n : ℕ × Bool) → o.stopped ≡ Some n → (answers j v start_world read o).1 ≡ NoMemory
-stopped_status j v read o n h = ap (λ x. (answers_by x j v start_world read o.commands o.input_failed).1) h
+stopped_status : (j : Job) (v : Verdict) (read : List ℕ) (o : Outcomes) (n : ℕ × Bool) → o.stopped ≡ Some n → (answers j v blank_world read o).1 ≡ NoMemory
+stopped_status j v read o n h = ap (λ x. (answers_by x j v blank_world read o.commands o.input_failed).1) h
 
 -- a verdict on a part that is refused ends the run
 refused_status_with : (j : Job) (v : Verdict) (text : List ℕ) (why : Refusal) (s : Ending) → Decides j text v → HasVerdict j text (Rejected why) → status_at (ending_with v s) ≡ status.Program
@@ -241,7 +241,7 @@ refused_by : (j : Job) (a b : Seen) (s : Status) (r : Runs j a b s) (part : Part
 refused_by j a b s r part why is h = by (subst (λ x. IsJudged j r.verdict x r.outcomes.stopped) is r.judged)
   where
     by : IsJudged j r.verdict (Some part) r.outcomes.stopped → IsUnlessEnded status.Program s
-    by (inr q) = joined (answers j r.verdict start_world r.read r.outcomes).1 (RefusedProgram why) s (inl (stopped_status j r.verdict r.read r.outcomes (0, true) q.1)) (told_status j a b s r)
+    by (inr q) = joined (answers j r.verdict blank_world r.read r.outcomes).1 (RefusedProgram why) s (inl (stopped_status j r.verdict r.read r.outcomes (0, true) q.1)) (told_status j a b s r)
     by (inl q) =
         let e : status_of j r.verdict r.read r.outcomes.input_failed ≡ status.Program = ap (λ x. status_at (ending_in j r.verdict x (reading_end r.read r.outcomes.input_failed))) is ∙ refused_status_with j r.verdict part.text why (behind_part j (reading_end r.read r.outcomes.input_failed)) q h in
         subst (λ x. IsUnlessEnded x s) e (ends_with j a b s r)

@@ -4,18 +4,18 @@ use Rattle.std.specs.Prelude.{map}
 use Rattle.std.specs.List.{flat_map}
 use Rattle.std.proofs.lemmas.Bool.{lt-ltb, le-ltb}
 use Rattle.std.proofs.lemmas.List.{append-nil, take_at, length_push, map-append}
-use Rattle.re_outside.specs.Outside.{Seen, Does, Breaks, IsAtEnd, Faults, none, input_fault, output_fault, plus}
+use Rattle.re_outside.specs.Outside.{Seen, Does, Breaks, IsAtEnd, Faults, none}
 use Rattle.re_outside.proofs.Does.{does-nil, does_well, breaks_does, at_end}
 use Rattle.re_tool.proofs.Ends.{stops_none, stops_input, ends_output}
 use Rattle.re_terms.specs.declared.program.Program.{Program}
-use Rattle.re_tool.specs.Worlds.{Outcome, start_world}
+use Rattle.re_terms.specs.DeviceWorlds.{Outcome, blank_world}
 use Rattle.re_tool.specs.declared.reader.Reader.{Reader}
 use Rattle.re_tool.specs.declared.words.Job.{Job}
 use Rattle.re_tool.specs.declared.words.Job.TheVariants as job
 use Rattle.re_tool.specs.declared.status.Status.{Status}
 use Rattle.re_tool.specs.declared.status.Status.TheVariants as status
 use Rattle.re_tool.specs.Acts.{Ordered, OrderedIn}
-use Rattle.re_tool.specs.Answers.{Outcomes, Session, texts, lines_after, session_of, session_in, answers, done, close, ending_in, reading_end, session_text, first_lines}
+use Rattle.re_tool.specs.Answers.{Outcomes, texts, lines_after, session_of, session_in, answers, close, ending_in, reading_end, session_text, first_lines}
 use Rattle.re_tool.specs.Endings.{Ending, Done, InputFault, NoMemory, InputTooLong, status_at, last_line}
 use Rattle.re_tool.specs.Clipped.{Clipped}
 use Rattle.re_unstored.specs.Device.{DeviceState}
@@ -28,7 +28,7 @@ use Rattle.re_tool.specs.Verdict.{Verdict, Accepted}
 use Rattle.re_tool.proofs.Orders.{texts_more, texts_front, acts_more, act_said, ordered_all, ordered_but_one}
 use Rattle.re_tool.proofs.Parts.{read_more, taken_more}
 use Rattle.re_tool.proofs.PassedLines.{does_more}
-use Rattle.re_tool.proofs.Sessions.{SoFar, Ready, Near, with_lines, says_more, part_at, part_cut, judged_at, session_at, near_ordered, size_more, part_last}
+use Rattle.re_tool.proofs.Sessions.{SoFar, Ready, Near, one_fared, with_lines, says_more, part_at, part_cut, judged_at, session_at, near_ordered, size_more, part_last}
 use Rattle.re_tool.proofs.Splits.{split_lines, split_last}
 
 -- an accepted program doesn't end the run
@@ -38,10 +38,10 @@ runs_on p (Some part) s = refl
 
 -- what a run says of a session that it came to the end of
 pub answers_to : (read : List ℕ) (failed : Bool) (p : Program) (lines : List (List ℕ)) (os : List Outcome) (s : Ending) → session_of job.Run (Accepted p) read failed ≡ with_lines p lines → reading_end read failed ≡ s
-    → answers job.Run (Accepted p) start_world read record { commands = os; input_failed = failed; stopped = None } ≡ close s (texts p (start_world p) lines os)
+    → answers job.Run (Accepted p) blank_world read record { commands = os; input_failed = failed; stopped = None } ≡ close s (texts p (blank_world p) lines os)
 answers_to read failed p lines os s is e =
-    ap (λ x. close x (session_text start_world (session_of job.Run (Accepted p) read failed) os)) (runs_on p (part_of read failed) (reading_end read failed) ∙ e)
-    ∙ ap (λ x. close s (session_text start_world x os)) is
+    ap (λ x. close x (session_text blank_world (session_of job.Run (Accepted p) read failed) os)) (runs_on p (part_of read failed) (reading_end read failed) ∙ e)
+    ∙ ap (λ x. close s (session_text blank_world x os)) is
 
 pub ends_input : (read : List ℕ) → length read ≤ limit → reading_end read true ≡ InputFault
 ends_input read h = rw (le-ltb limit (length read) h) refl
@@ -73,16 +73,17 @@ module _ (a b c : Seen) (p : Program) (r r' : Reader) (device : DeviceState) (li
         read = read;
         few = omega arith;
         outcomes = record { commands = s.outcomes; input_failed = false; stopped = None };
+        fared = s.fared;
         verdict = Accepted p;
         judged = judged_at p _ _ _ None (cut false) s.program;
-        text = texts p (start_world p) lines s.outcomes;
+        text = texts p (blank_world p) lines s.outcomes;
         does = stops_none a c read _ (does_more a b c s.read d.bytes _ s.does d.does);
         unanswered = [];
         unsaid = refl;
         calm = c;
         halts = refl;
         at_input = λ h. absurd (cc);
-        ordered = subst (λ x. OrderedIn a c start_world x s.outcomes []) (sym is) (near_ordered a b c p r device s d.bytes d.does);
+        ordered = subst (λ x. OrderedIn a c blank_world x s.outcomes []) (sym is) (near_ordered a b c p r device s d.bytes d.does);
         answer = answers_to read false p lines s.outcomes InputTooLong is (ends_long read false over);
         complete = inl (omega (arith, ap (λ x. length (lines_of (session_in (Accepted p) x))) (cut false), ap (λ x. length (part_lines x)) (cut true)));
         far = tt;
@@ -106,17 +107,18 @@ module _ (a b c : Seen) (p : Program) (r r' : Reader) (device : DeviceState) (li
         read = read;
         few = omega arith;
         outcomes = record { commands = s.outcomes; input_failed = false; stopped = Some (n, true) };
+        fared = s.fared;
         verdict = Accepted p;
         judged = judged_at p _ _ _ (Some (n, true)) (part false) s.program;
-        text = texts p (start_world p) lines s.outcomes;
+        text = texts p (blank_world p) lines s.outcomes;
         does = stops_none a c read _ (does_more a b c s.read d.bytes _ s.does d.does);
         unanswered = [];
         unsaid = omega arith;
         calm = c;
         halts = refl;
         at_input = λ h. absurd (cc);
-        ordered = subst (λ x. OrderedIn a c start_world x s.outcomes []) (sym is) (near_ordered a b c p r device s d.bytes d.does);
-        answer = ap (λ x. close NoMemory (session_text start_world x s.outcomes)) is;
+        ordered = subst (λ x. OrderedIn a c blank_world x s.outcomes []) (sym is) (near_ordered a b c p r device s d.bytes d.does);
+        answer = ap (λ x. close NoMemory (session_text blank_world x s.outcomes)) is;
         complete = inl (omega (arith, ap (λ x. length (lines_of x)) is, ap (λ x. length (part_lines x)) (part true), at_least lines (map without_return (split rest).0 ++ [])));
         far = inl (omega (arith, ap (λ x. length (lines_of x)) is, ap (λ x. length (part_lines x)) (part true), at_least lines (map without_return (split rest).0 ++ [])));
       }
@@ -134,14 +136,15 @@ near_failed a b c p r r' device line' most s f few empty =
       read = read;
       few = omega arith;
       outcomes = record { commands = s.outcomes; input_failed = true; stopped = None };
+      fared = s.fared;
       verdict = Accepted p;
       judged = judged_at p _ _ _ None part s.program;
-      text = texts p (start_world p) lines s.outcomes;
-      does = stops_input a f.mid c read (texts p (start_world p) lines s.outcomes) (does_more a b f.mid s.read d.bytes _ s.does d.does) f.fails;
+      text = texts p (blank_world p) lines s.outcomes;
+      does = stops_input a f.mid c read (texts p (blank_world p) lines s.outcomes) (does_more a b f.mid s.read d.bytes _ s.does d.does) f.fails;
       unanswered = [];
       unsaid = refl;
       calm = f.mid;
-      ordered = subst (λ x. OrderedIn a f.mid start_world x s.outcomes []) (sym is) (near_ordered a b f.mid p r device s d.bytes d.does);
+      ordered = subst (λ x. OrderedIn a f.mid blank_world x s.outcomes []) (sym is) (near_ordered a b f.mid p r device s d.bytes d.does);
       halts = f.fails;
       at_input = λ h. refl;
       answer = answers_to read true p lines s.outcomes InputFault is (ends_input read short);
@@ -162,8 +165,8 @@ module _ (a c e : Seen) (p : Program) (device : DeviceState) (line : List ℕ) (
   without_this = ap (first_lines (length q.lines + 1 - 1)) q.session ∙ ap (with_lines p) (take_at q.lines (line ∷ q.more) (length q.lines + 1 - 1) (omega arith))
 
   -- all lines but this one are answered, and this one was done
-  ordered_with : (o : Outcome) → Does c e [] [] none → Ordered a e p (start_world p) (q.lines ++ line ∷ []) (q.outcomes ++ o ∷ []) (line ∷ [])
-  ordered_with o d = ordered_but_one a q.mid c e p (start_world p) q.lines line q.outcomes o q.ahead q.same q.acts q.noise d
+  ordered_with : (o : Outcome) → Does c e [] [] none → Ordered a e p (blank_world p) (q.lines ++ line ∷ []) (q.outcomes ++ o ∷ []) (line ∷ [])
+  ordered_with o d = ordered_but_one a q.mid c e p (blank_world p) q.lines line q.outcomes o q.ahead q.same q.acts q.noise d
 
   complete_with : {text : List ℕ} {f : Faults} (n : ℕ) → n ≡ length q.lines + 1 → Does c e [] text f → (length (lines_of (first_lines n (session_of job.Run (Accepted p) q.read false))) ≤ length (part_lines (part_of q.read true))) ⊎ IsAtEnd e
   complete_with {text} {f} n h d = cases q.complete
@@ -184,17 +187,18 @@ module _ (a c e : Seen) (p : Program) (device : DeviceState) (line : List ℕ) (
         read = q.read;
         few = omega (arith, q.few);
         outcomes = record { commands = os; input_failed = false; stopped = Some (length q.lines + 1, false) };
+        fared = one_fared q.outcomes t.answers.outcome q.fared t.answers.fares;
         verdict = Accepted p;
         judged = q.judged (Some (length q.lines + 1, false));
-        text = texts p (start_world p) q.lines q.outcomes;
+        text = texts p (blank_world p) q.lines q.outcomes;
         does = stops_none a e q.read _ (says_more a c e q.read _ [] _ q.does d (sym (append-nil _)));
         unanswered = line ∷ [];
         unsaid = omega arith;
         calm = e;
-        ordered = subst (λ x. OrderedIn a e start_world x os (line ∷ [])) (sym with_this) (ordered_with t.answers.outcome d);
+        ordered = subst (λ x. OrderedIn a e blank_world x os (line ∷ [])) (sym with_this) (ordered_with t.answers.outcome d);
         halts = refl;
         at_input = λ h. absurd (cc);
-        answer = ap (λ x. close NoMemory (session_text start_world x os)) without_this ∙ ap (close NoMemory) (texts_front p (start_world p) q.lines q.outcomes t.answers.outcome q.same);
+        answer = ap (λ x. close NoMemory (session_text blank_world x os)) without_this ∙ ap (close NoMemory) (texts_front p (blank_world p) q.lines q.outcomes t.answers.outcome q.same);
         complete = complete_with (length q.lines + 1) refl d;
         far = complete_with (length q.lines + 1) refl d;
       }
@@ -202,7 +206,7 @@ module _ (a c e : Seen) (p : Program) (device : DeviceState) (line : List ℕ) (
   -- an answer broke off
   pub runs_output : (device' : DeviceState) → TurnBreaks p line device device' c e → Runs job.Run a e status.Output
   runs_output device' t =
-      let w = lines_after p (start_world p) q.lines q.outcomes in
+      let w = lines_after p (blank_world p) q.lines q.outcomes in
       let o = t.answers.outcome in
       let d = t.breaks in
       let os = q.outcomes ++ o ∷ [] in
@@ -211,21 +215,22 @@ module _ (a c e : Seen) (p : Program) (device : DeviceState) (line : List ℕ) (
         read = q.read;
         few = omega (arith, q.few);
         outcomes = record { commands = os; input_failed = false; stopped = Some (length q.lines + 1, true) };
+        fared = one_fared q.outcomes t.answers.outcome q.fared t.answers.fares;
         verdict = Accepted p;
         judged = q.judged (Some (length q.lines + 1, true));
-        text = texts p (start_world p) q.lines q.outcomes ++ d.front;
-        does = ends_output a c e false q.read (texts p (start_world p) q.lines q.outcomes) d.front (stops_none a c q.read _ q.does) broken;
+        text = texts p (blank_world p) q.lines q.outcomes ++ d.front;
+        does = ends_output a c e false q.read (texts p (blank_world p) q.lines q.outcomes) d.front (stops_none a c q.read _ q.does) broken;
         tells = (
           d.rest ++ last_line NoMemory,
-          ap (λ x. session_text start_world x os ++ last_line NoMemory) with_this
-              ∙ ap (λ x. x ++ last_line NoMemory) (texts_more p (start_world p) q.lines line q.outcomes o q.same ∙ ap (λ x. texts p (start_world p) q.lines q.outcomes ++ x) (sym (t.answers.says w q.represents) ∙ d.whole))
+          ap (λ x. session_text blank_world x os ++ last_line NoMemory) with_this
+              ∙ ap (λ x. x ++ last_line NoMemory) (texts_more p (blank_world p) q.lines line q.outcomes o q.same ∙ ap (λ x. texts p (blank_world p) q.lines q.outcomes ++ x) (sym (t.answers.says w q.represents) ∙ d.whole))
               ∙ simp append_assoc,
         );
         unanswered = line ∷ [];
         whole = omega arith;
         answered = λ h. absurd (cc);
         calm = c;
-        ordered = subst (λ x. OrderedIn a c start_world x os (line ∷ [])) (sym with_this) (ordered_but_one a q.mid c c p (start_world p) q.lines line q.outcomes o q.ahead q.same q.acts q.noise (does-nil c));
+        ordered = subst (λ x. OrderedIn a c blank_world x os (line ∷ [])) (sym with_this) (ordered_but_one a q.mid c c p (blank_world p) q.lines line q.outcomes o q.ahead q.same q.acts q.noise (does-nil c));
         halted = c;
         halts = refl;
         last = t.text;
@@ -237,7 +242,7 @@ module _ (a c e : Seen) (p : Program) (device : DeviceState) (line : List ℕ) (
   -- the last line is done
   pub runs_done : (device' : DeviceState) → q.more ≡ [] → IsAtEnd c → Turns p line device device' c e → Runs job.Run a e status.Done
   runs_done device' last end t =
-      let w = lines_after p (start_world p) q.lines q.outcomes in
+      let w = lines_after p (blank_world p) q.lines q.outcomes in
       let o = t.answers.outcome in
       let lines = q.lines ++ line ∷ [] in
       let os = q.outcomes ++ o ∷ [] in
@@ -248,18 +253,19 @@ module _ (a c e : Seen) (p : Program) (device : DeviceState) (line : List ℕ) (
         read = q.read;
         few = omega (arith, q.few);
         outcomes = record { commands = os; input_failed = false; stopped = None };
+        fared = one_fared q.outcomes t.answers.outcome q.fared t.answers.fares;
         verdict = Accepted p;
         judged = q.judged None;
-        text = texts p (start_world p) lines os;
-        does = stops_none a e q.read _ (says_more a c e q.read _ t.text _ q.does t.does (texts_more p (start_world p) q.lines line q.outcomes o q.same ∙ ap (λ x. texts p (start_world p) q.lines q.outcomes ++ x) (sym text)));
+        text = texts p (blank_world p) lines os;
+        does = stops_none a e q.read _ (says_more a c e q.read _ t.text _ q.does t.does (texts_more p (blank_world p) q.lines line q.outcomes o q.same ∙ ap (λ x. texts p (blank_world p) q.lines q.outcomes ++ x) (sym text)));
         tells = (ap (λ (x : List ℕ × Ending). x.0) answer ∙ append-nil _, ap (λ (x : List ℕ × Ending). status_at x.1) answer);
         unanswered = [];
         whole = refl;
         answered = λ h. refl;
         calm = e;
-        ordered = subst (λ x. OrderedIn a e start_world x os []) (sym is)
-            (ordered_all a e e p (start_world p) lines os [] (length_push q.outcomes o ∙ ap (λ n. n + 1) q.same ∙ sym (length_push q.lines line))
-            (acts_more p (start_world p) q.lines line q.outcomes o a q.mid e q.same q.acts (act_said q.mid c e q.ahead t.text _ q.noise t.does text)) (does-nil e));
+        ordered = subst (λ x. OrderedIn a e blank_world x os []) (sym is)
+            (ordered_all a e e p (blank_world p) lines os [] (length_push q.outcomes o ∙ ap (λ n. n + 1) q.same ∙ sym (length_push q.lines line))
+            (acts_more p (blank_world p) q.lines line q.outcomes o a q.mid e q.same q.acts (act_said q.mid c e q.ahead t.text _ q.noise t.does text)) (does-nil e));
         halted = e;
         halts = refl;
         last = [];
@@ -356,11 +362,12 @@ module _ (j : Job) (a b c : Seen) (e : Ending) (n : Near j a b e) where
     read = n.read;
     few = n.few;
     outcomes = n.outcomes;
+    fared = n.fared;
     verdict = n.verdict;
     judged = n.judged;
     text = n.text ++ last_line e;
     does = subst (λ o. Does a c n.read (n.text ++ last_line e) (faults_of n.outcomes.input_failed o)) (sym (not_output (status_at e) h)) (does_well a b c n.read n.text (last_line e) _ n.does d);
-    tells = tells_all (status_at e) (answers j n.verdict start_world n.read n.outcomes) (n.text ++ last_line e) h (ap (λ (x : List ℕ × Ending). x.0) n.answer) (ap (λ (x : List ℕ × Ending). status_at x.1) n.answer);
+    tells = tells_all (status_at e) (answers j n.verdict blank_world n.read n.outcomes) (n.text ++ last_line e) h (ap (λ (x : List ℕ × Ending). x.0) n.answer) (ap (λ (x : List ℕ × Ending). status_at x.1) n.answer);
     unanswered = n.unanswered;
     whole = n.unsaid;
     answered = λ h. subst (λ s. Unanswered s n.unanswered) (ap status_at (n.at_input h)) n.unsaid;
@@ -382,6 +389,7 @@ module _ (j : Job) (a b c : Seen) (e : Ending) (n : Near j a b e) where
         read = n.read;
         few = n.few;
         outcomes = n.outcomes;
+        fared = n.fared;
         verdict = n.verdict;
         judged = n.judged;
         text = n.text ++ d.front;

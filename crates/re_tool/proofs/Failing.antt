@@ -1,19 +1,19 @@
 -- What stands behind the step of a call that failed.
-use Rattle.std.proofs.Common.{arith, ◌≡◌, ◌≤◌, ◌+◌, ◌++◌, ◌∷◌, [], ℕ, List, sym, ◌∙◌, ap, subst, refl, append_assoc, Bool, true, false, Option, Some, None, ◌⊎◌, inl, inr}
+use Rattle.std.proofs.Common.{◌≡◌, ◌++◌, ◌∷◌, [], ℕ, List, sym, ◌∙◌, ap, subst, refl, append_assoc, Bool, true, false, Option, Some, None, ◌⊎◌, inl, inr}
 use Rattle.std.proofs.lemmas.List.{append-nil, append_cancel_left}
 use Rattle.re_outside.specs.declared.step.Call.TheVariants as call
 use Rattle.re_outside.specs.declared.step.Step.{Step}
 use Rattle.re_outside.specs.declared.step.Step.TheVariants as step
-use Rattle.re_outside.specs.Outside.{Seen, AreSays, Does, Fails, Breaks, IsFailure, said, none}
+use Rattle.re_outside.specs.Outside.{Seen, AreSays, Does, Breaks, IsFailure, said, none}
 use Rattle.re_outside.proofs.Does.{does-nil, does-trans, plus-none, said-append, failure-said, says_alone}
 use Rattle.re_terms.specs.declared.program.Program.{Program}
-use Rattle.re_tool.specs.Worlds.{World, Outcome, start_world}
+use Rattle.re_terms.specs.DeviceWorlds.{Outcome, World, blank_world}
 use Rattle.re_commands.specs.Commanding.{commanded}
 use Rattle.re_tool.specs.declared.words.Job.{Job}
 use Rattle.re_tool.specs.declared.status.Status.{Status}
 use Rattle.re_tool.specs.declared.status.Status.TheVariants as status
 use Rattle.re_tool.specs.Acts.{Act, Acts, Ordered, OrderedIn}
-use Rattle.re_tool.specs.Answers.{Session, first, others, line_text, line_after}
+use Rattle.re_tool.specs.Answers.{Session, first, others, line_after}
 use Rattle.re_tool.specs.Endings.{InputFault, last_line}
 use Rattle.re_tool.specs.Failures.{failed_take, failed_say, SaysLastLine, StopsAtFailures}
 use Rattle.re_tool.specs.Session.{Runs, Halts, Closes, OnlyLastLine, Finishes, Refuses}
@@ -272,7 +272,7 @@ course old calm halted new input last s c h p only = record {
 -- a run does nothing behind a failed `say`, and says its last line alone behind a failed `take`
 pub run_stops : (j : Job) (a b : Seen) (s : Status) → Runs j a b s → StopsAtFailures a b s
 run_stops j a b s r =
-    course_stops a b s (course a r.calm r.halted b r.outcomes.input_failed r.last s (calm_in a r.calm start_world _ _ r.unanswered r.ordered) (halt_parts r.outcomes.input_failed r.calm r.halted r.halts) (close_parts r.halted b r.last s r.closes) r.only)
+    course_stops a b s (course a r.calm r.halted b r.outcomes.input_failed r.last s (calm_in a r.calm blank_world _ _ r.unanswered r.ordered) (halt_parts r.outcomes.input_failed r.calm r.halted r.halts) (close_parts r.halted b r.last s r.closes) r.only)
 
 finish_parts : (a b : Seen) (line : List ℕ) (wanted s : Status) → Finishes a b line wanted s → CloseParts a b line s
 finish_parts a b line wanted status.Output d = close_broken a b line d

@@ -15,9 +15,11 @@ pub mod Sessions
 pub mod Splits
 pub mod Starting
 pub mod Settling
+pub mod Commands
 pub mod Devices
 pub mod Histories
 pub mod LimitCodes
+pub mod Declared
 pub mod Lines
 pub mod Meanings
 pub mod VarWords

@@ -4,11 +4,10 @@ use Rattle.std.proofs.lemmas.List.{append-nil}
 use Rattle.re_outside.specs.Outside.{Seen, Does, none}
 use Rattle.re_outside.proofs.Does.{does-nil}
 use Rattle.re_terms.specs.declared.program.Program.{Program}
-use Rattle.re_tool.specs.Worlds.{World, Outcome}
+use Rattle.re_terms.specs.DeviceWorlds.{World, Outcome}
 use Rattle.re_commands.specs.Commanding.{commanded}
-use Rattle.re_tool.specs.Answers.{texts, lines_after, first, others, line_text, line_after}
+use Rattle.re_tool.specs.Answers.{texts, lines_after, line_text, line_after}
 use Rattle.re_tool.specs.Acts.{Act, Acts, Ordered}
-use Rattle.re_tool.proofs.PassedLines.{does_more}
 
 pub texts-append : (p : Program) (w : World) (xs ys : List (List ℕ)) (os qs : List Outcome) → length os ≡ length xs → texts p w (xs ++ ys) (os ++ qs) ≡ texts p w xs os ++ texts p (lines_after p w xs os) ys qs
 texts-append p w [] ys [] qs h = refl

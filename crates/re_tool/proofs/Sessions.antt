@@ -1,17 +1,18 @@
 -- A session, line by line.
 use Rattle.std.proofs.Common.{arith, ◌≡◌, ◌≤◌, ◌<◌, ◌+◌, ◌++◌, ◌∷◌, [], ℕ, List, length, take, sym, ◌∙◌, ap, subst, refl, Bool, true, false, Option, Some, append_assoc, length-append, ◌⊎◌, inl, inr}
 use Rattle.std.specs.Prelude.{map}
-use Rattle.std.specs.List.{flat_map}
+use Rattle.std.specs.List.{All, flat_map}
 use Rattle.std.proofs.lemmas.List.{append-nil, length_push, map-append}
+use Rattle.std.proofs.lemmas.List.Elements.{All-append, All-cons, All-nil}
 use Rattle.re_outside.specs.Outside.{Seen, Does, IsAtEnd, none}
 use Rattle.re_outside.proofs.Does.{does-nil, does_well, does_as}
 use Rattle.re_terms.specs.declared.program.Program.{Program}
-use Rattle.re_tool.specs.Worlds.{Outcome, start_world}
+use Rattle.re_terms.specs.DeviceWorlds.{Outcome, blank_world}
 use Rattle.re_tool.specs.declared.reader.Reader.{Reader}
 use Rattle.re_tool.specs.declared.words.Job.{Job}
 use Rattle.re_tool.specs.declared.words.Job.TheVariants as job
 use Rattle.re_tool.specs.Acts.{Acts, Ordered, OrderedIn}
-use Rattle.re_tool.specs.Answers.{Outcomes, Session, texts, lines_after, line_text, line_after, session_of, session_in, answers, done, close}
+use Rattle.re_tool.specs.Answers.{Outcomes, IsFineOrMemory, Session, texts, lines_after, line_text, line_after, session_of, session_in, answers, done, close}
 use Rattle.re_tool.specs.Endings.{Ending, InputFault, status_at}
 use Rattle.re_tool.specs.Clipped.{Clipped}
 use Rattle.re_commands.specs.Commanding.{commanded}
@@ -38,6 +39,7 @@ pub record SoFar (a b : Seen) (p : Program) (r : Reader) (device : DeviceState) 
   pub head : List (List ℕ)
   pub raws : List (List ℕ)
   pub outcomes : List Outcome
+  pub fared : All IsFineOrMemory outcomes
   pub read : List ℕ
   pub same : length outcomes ≡ length (map without_return raws)
   pub plain : ArePlain (head ++ raws)
@@ -46,11 +48,11 @@ pub record SoFar (a b : Seen) (p : Program) (r : Reader) (device : DeviceState) 
   pub whole : read ≡ flat_map ended (head ++ raws) ++ r.chunk
   pub taken : r.taken ≡ length read
   pub few : r.taken ≤ limit
-  pub does : Does a b read (texts p (start_world p) (map without_return raws) outcomes) none
-  pub represents : Represents p (lines_after p (start_world p) (map without_return raws) outcomes) device
+  pub does : Does a b read (texts p (blank_world p) (map without_return raws) outcomes) none
+  pub represents : Represents p (lines_after p (blank_world p) (map without_return raws) outcomes) device
   -- the moment behind the last answer, and what was read behind it
   pub mid : Seen
-  pub acts : Acts p (start_world p) (map without_return raws) outcomes a mid
+  pub acts : Acts p (blank_world p) (map without_return raws) outcomes a mid
   pub ahead : List ℕ
   pub noise : Does mid b ahead [] none
 
@@ -58,6 +60,7 @@ pub record SoFar (a b : Seen) (p : Program) (r : Reader) (device : DeviceState) 
 pub record Ready (a b : Seen) (p : Program) (device : DeviceState) (line : List ℕ) : Type 0 where
   pub lines : List (List ℕ)
   pub outcomes : List Outcome
+  pub fared : All IsFineOrMemory outcomes
   pub read : List ℕ
   pub more : List (List ℕ)
   pub same : length outcomes ≡ length lines
@@ -66,10 +69,10 @@ pub record Ready (a b : Seen) (p : Program) (device : DeviceState) (line : List 
   pub few : length read ≤ limit
   -- the line is a whole one, or the input is at its end
   pub complete : (length lines + 1 ≤ length (part_lines (part_of read true))) ⊎ IsAtEnd b
-  pub does : Does a b read (texts p (start_world p) lines outcomes) none
-  pub represents : Represents p (lines_after p (start_world p) lines outcomes) device
+  pub does : Does a b read (texts p (blank_world p) lines outcomes) none
+  pub represents : Represents p (lines_after p (blank_world p) lines outcomes) device
   pub mid : Seen
-  pub acts : Acts p (start_world p) lines outcomes a mid
+  pub acts : Acts p (blank_world p) lines outcomes a mid
   pub ahead : List ℕ
   pub noise : Does mid b ahead [] none
 
@@ -78,6 +81,7 @@ pub record Near (j : Job) (a b : Seen) (e : Ending) : Type 0 where
   pub read : List ℕ
   pub few : length read ≤ limit + 1
   pub outcomes : Outcomes
+  pub fared : All IsFineOrMemory outcomes.commands
   pub verdict : Verdict
   pub judged : IsJudged j verdict (part_of read outcomes.input_failed) outcomes.stopped
   pub text : List ℕ
@@ -86,10 +90,10 @@ pub record Near (j : Job) (a b : Seen) (e : Ending) : Type 0 where
   pub unsaid : Unanswered (status_at e) unanswered
   -- no call failed up to this moment, and perhaps a `take` behind it
   pub calm : Seen
-  pub ordered : OrderedIn a calm start_world (done j verdict read outcomes) outcomes.commands unanswered
+  pub ordered : OrderedIn a calm blank_world (done j verdict read outcomes) outcomes.commands unanswered
   pub halts : Halts outcomes.input_failed calm b
   pub at_input : outcomes.input_failed ≡ true → e ≡ InputFault
-  pub answer : answers j verdict start_world read outcomes ≡ close e text
+  pub answer : answers j verdict blank_world read outcomes ≡ close e text
   pub complete : AreComplete j verdict read outcomes ⊎ IsAtEnd b
   pub far : ReadFar j (status_at e) verdict read outcomes b
 
@@ -99,6 +103,7 @@ starts_so_far a b p r device s = record {
   head = s.head;
   raws = [];
   outcomes = [];
+  fared = All-nil IsFineOrMemory;
   read = s.read;
   same = refl;
   plain = subst ArePlain (sym (append-nil s.head)) s.plain;
@@ -142,10 +147,15 @@ session_at p part text lines is = ap (session_in (Accepted p)) is
 raws_more : (raws : List (List ℕ)) (line : List ℕ) (more : List (List ℕ)) → map without_return (raws ++ line ∷ more) ≡ map without_return raws ++ without_return line ∷ map without_return more
 raws_more raws line more = map-append without_return raws (line ∷ more)
 
+-- one outcome more
+pub one_fared : (os : List Outcome) (o : Outcome) → All IsFineOrMemory os → IsFineOrMemory o → All IsFineOrMemory (os ++ o ∷ [])
+one_fared os o all one = All-append IsFineOrMemory os (o ∷ []) all (All-cons IsFineOrMemory o [] one (All-nil IsFineOrMemory))
+
 -- the same line in other words
 pub answers_as : (p : Program) (line line' : List ℕ) (before after : DeviceState) (text : List ℕ) → commanded p line ≡ commanded p line' → AnswersLine p line before after text → AnswersLine p line' before after text
 answers_as p line line' before after text e q = record {
   outcome = q.outcome;
+  fares = q.fares;
   says = λ w h. q.says w h ∙ ap (λ l. line_text p w l q.outcome) e;
   world = λ w h. subst (λ l. Represents p (line_after p w l q.outcome) after) e (q.world w h);
 }
@@ -196,6 +206,7 @@ module _ (a b c : Seen) (p : Program) (r r' : Reader) (device : DeviceState) (li
   ready_line d few = record {
     lines = map without_return s.raws;
     outcomes = s.outcomes;
+    fared = s.fared;
     read = s.read ++ d.bytes;
     more = map without_return (split r'.chunk).0 ++ (split r'.chunk).1 ∷ [];
     same = s.same;
@@ -225,6 +236,7 @@ module _ (a b c : Seen) (p : Program) (r r' : Reader) (device : DeviceState) (li
     record {
       lines = map without_return s.raws;
       outcomes = s.outcomes;
+      fared = s.fared;
       read = s.read ++ d.bytes;
       more = [];
       same = s.same;
@@ -247,7 +259,7 @@ module _ (a b c : Seen) (p : Program) (r r' : Reader) (device : DeviceState) (li
   so_far_more e device' d few t =
       let lines = map without_return s.raws in
       let line = without_return d.line in
-      let w = lines_after p (start_world p) lines s.outcomes in
+      let w = lines_after p (blank_world p) lines s.outcomes in
       let lines_are : map without_return (s.raws ++ d.line ∷ []) ≡ lines ++ line ∷ [] = raws_more s.raws d.line [] in
       let text = t.answers.says w s.represents in
       record {
@@ -255,6 +267,7 @@ module _ (a b c : Seen) (p : Program) (r r' : Reader) (device : DeviceState) (li
         head = s.head;
         raws = s.raws ++ d.line ∷ [];
         outcomes = s.outcomes ++ t.answers.outcome ∷ [];
+        fared = one_fared s.outcomes t.answers.outcome s.fared t.answers.fares;
         read = s.read ++ d.bytes;
         same = length_push s.outcomes t.answers.outcome ∙ ap (λ n. n + 1) s.same ∙ sym (length_push lines line) ∙ sym (ap length lines_are);
         plain = subst ArePlain (append_assoc s.head s.raws (d.line ∷ [])) (plain_more (s.head ++ s.raws) d.line s.plain d.plain);
@@ -264,15 +277,15 @@ module _ (a b c : Seen) (p : Program) (r r' : Reader) (device : DeviceState) (li
         taken = size_more d;
         few = few;
         does = says_more a c e (s.read ++ d.bytes) _ t.text _ (does_more a b c s.read d.bytes _ s.does d.does) t.does
-            (ap (λ l. texts p (start_world p) l (s.outcomes ++ t.answers.outcome ∷ [])) lines_are ∙ texts_more p (start_world p) lines line s.outcomes t.answers.outcome s.same ∙ ap (λ x. texts p (start_world p) lines s.outcomes ++ x) (sym text));
-        represents = subst (λ v. Represents p v device') (sym (ap (λ l. lines_after p (start_world p) l (s.outcomes ++ t.answers.outcome ∷ [])) lines_are ∙ after-append p (start_world p) lines (line ∷ []) s.outcomes (t.answers.outcome ∷ []) s.same)) (t.answers.world w s.represents);
+            (ap (λ l. texts p (blank_world p) l (s.outcomes ++ t.answers.outcome ∷ [])) lines_are ∙ texts_more p (blank_world p) lines line s.outcomes t.answers.outcome s.same ∙ ap (λ x. texts p (blank_world p) lines s.outcomes ++ x) (sym text));
+        represents = subst (λ v. Represents p v device') (sym (ap (λ l. lines_after p (blank_world p) l (s.outcomes ++ t.answers.outcome ∷ [])) lines_are ∙ after-append p (blank_world p) lines (line ∷ []) s.outcomes (t.answers.outcome ∷ []) s.same)) (t.answers.world w s.represents);
         mid = e;
-        acts = subst (λ l. Acts p (start_world p) l (s.outcomes ++ t.answers.outcome ∷ []) a e) (sym lines_are)
-            (acts_more p (start_world p) lines line s.outcomes t.answers.outcome a s.mid e s.same s.acts (act_said s.mid c e (s.ahead ++ d.bytes) t.text _ (does_more s.mid b c s.ahead d.bytes [] s.noise d.does) t.does text));
+        acts = subst (λ l. Acts p (blank_world p) l (s.outcomes ++ t.answers.outcome ∷ []) a e) (sym lines_are)
+            (acts_more p (blank_world p) lines line s.outcomes t.answers.outcome a s.mid e s.same s.acts (act_said s.mid c e (s.ahead ++ d.bytes) t.text _ (does_more s.mid b c s.ahead d.bytes [] s.noise d.does) t.does text));
         ahead = [];
         noise = does-nil e;
       }
 
 -- the lines so far are answered, and more was read
-pub near_ordered : (a b c : Seen) (p : Program) (r : Reader) (device : DeviceState) (s : SoFar a b p r device) (bytes : List ℕ) → Does b c bytes [] none → Ordered a c p (start_world p) (map without_return s.raws) s.outcomes []
-near_ordered a b c p r device s bytes d = ordered_all a s.mid c p (start_world p) (map without_return s.raws) s.outcomes (s.ahead ++ bytes) s.same s.acts (does_more s.mid b c s.ahead bytes [] s.noise d)
+pub near_ordered : (a b c : Seen) (p : Program) (r : Reader) (device : DeviceState) (s : SoFar a b p r device) (bytes : List ℕ) → Does b c bytes [] none → Ordered a c p (blank_world p) (map without_return s.raws) s.outcomes []
+near_ordered a b c p r device s bytes d = ordered_all a s.mid c p (blank_world p) (map without_return s.raws) s.outcomes (s.ahead ++ bytes) s.same s.acts (does_more s.mid b c s.ahead bytes [] s.noise d)

@@ -1,6 +1,6 @@
 -- How bytes split into lines.
 use Rattle.std.proofs.Common.{◌≡◌, ◌≤◌, ◌<◌, ◌++◌, ◌∷◌, [], ℕ, List, length, take, sym, ◌∙◌, ap, subst, refl, append_assoc, Bool, true, false, Option, Some, None}
-use Rattle.std.specs.Prelude.{◌||◌, ◌==◌, option_map, if◌then◌else◌}
+use Rattle.std.specs.Prelude.{◌||◌, ◌==◌, option_map}
 use Rattle.std.specs.List.{flat_map}
 use Rattle.std.proofs.lemmas.Bool.{lt-ltb, le-ltb, eqb-true}
 use Rattle.std.proofs.lemmas.List.{append-nil, take_all}

@@ -3,11 +3,12 @@ use Rattle.std.proofs.Common.{arith, ◌≡◌, ◌≤◌, ◌<◌, ◌++◌, �
 use Rattle.std.specs.Prelude.{map}
 use Rattle.std.specs.List.{flat_map}
 use Rattle.std.proofs.lemmas.List.{length-append, append-nil}
-use Rattle.re_outside.specs.Outside.{Seen, Does, Breaks, IsAtEnd, none, plus, output_fault}
+use Rattle.std.proofs.lemmas.List.Elements.{All-nil}
+use Rattle.re_outside.specs.Outside.{Seen, Does, Breaks, IsAtEnd, none}
 use Rattle.re_outside.proofs.Does.{does-nil, does_well, breaks_does}
 use Rattle.re_print.specs.Canonical.{program_text}
 use Rattle.re_terms.specs.declared.program.Program.{Program}
-use Rattle.re_tool.specs.Worlds.{Outcome, start_world}
+use Rattle.re_terms.specs.DeviceWorlds.{Outcome, blank_world}
 use Rattle.re_tool.specs.declared.reader.Reader.{Reader}
 use Rattle.re_tool.specs.declared.words.Job.{Job}
 use Rattle.re_tool.specs.declared.words.Job.TheVariants as job
@@ -15,7 +16,7 @@ use Rattle.re_tool.specs.declared.faults.Refusal.{Refusal}
 use Rattle.re_tool.specs.declared.status.Status.{Status}
 use Rattle.re_tool.specs.declared.status.Status.TheVariants as status
 use Rattle.re_tool.specs.Acts.{OrderedIn}
-use Rattle.re_tool.specs.Answers.{Session, session_of, session_in, answers, close, checked_text, ending_in, reading_end, session_text, first_lines}
+use Rattle.re_tool.specs.Answers.{IsFineOrMemory, Session, session_of, session_in, answers, close, checked_text, ending_in, reading_end, session_text, first_lines}
 use Rattle.re_tool.specs.Endings.{Ending, Done, RefusedProgram, InputFault, NoMemory, InputTooLong, status_at, last_line}
 use Rattle.re_tool.specs.Clipped.{Clipped}
 use Rattle.re_unstored.specs.Device.{DeviceState}
@@ -34,7 +35,7 @@ use Rattle.re_tool.proofs.Programs.{verdict-kept}
 use Rattle.re_tool.proofs.Sessions.{Near, with_lines, judged_at, session_at}
 use Rattle.re_tool.proofs.Splits.{split_lines, part_short}
 
-no_lines : (s : Option Session) (os : List Outcome) → session_text start_world (first_lines 0 s) os ≡ []
+no_lines : (s : Option Session) (os : List Outcome) → session_text blank_world (first_lines 0 s) os ≡ []
 no_lines None os = refl
 no_lines (Some s) os = refl
 
@@ -42,9 +43,9 @@ none_done : (s : Option Session) → length (lines_of (first_lines 0 s)) ≡ 0
 none_done None = refl
 none_done (Some s) = refl
 
-none_ordered : (a b : Seen) (s : Option Session) (read : List ℕ) → Does a b read [] none → OrderedIn a b start_world (first_lines 0 s) [] []
+none_ordered : (a b : Seen) (s : Option Session) (read : List ℕ) → Does a b read [] none → OrderedIn a b blank_world (first_lines 0 s) [] []
 none_ordered a b None read d = (refl, refl, (read, d))
-none_ordered a b (Some s) read d = ordered_all a a b s.program (start_world s.program) [] [] read refl refl d
+none_ordered a b (Some s) read d = ordered_all a a b s.program (blank_world s.program) [] [] read refl refl d
 
 unknown : (j : Job) (part : Option Part) → IsJudged j Unknown part (Some (0, true))
 unknown j None = refl
@@ -58,6 +59,7 @@ near_stops j a b read few d =
       read = read;
       few = omega arith;
       outcomes = record { commands = []; input_failed = false; stopped = Some (0, true) };
+      fared = All-nil IsFineOrMemory;
       verdict = Unknown;
       judged = unknown j (part_of read false);
       text = [];
@@ -82,10 +84,10 @@ near_part_is j a b r text false s = near_stops j a b s.read s.few s.does
 
 -- what is said where no job goes on
 no_session : (j : Job) (v : Verdict) (read : List ℕ) (failed : Bool) (part : Option Part) (s : Ending) → part_of read failed ≡ part → session_in v part ≡ None → checked_text v part ≡ [] → ending_in j v part (reading_end read failed) ≡ s
-    → answers j v start_world read record { commands = []; input_failed = failed; stopped = None } ≡ close s []
+    → answers j v blank_world read record { commands = []; input_failed = failed; stopped = None } ≡ close s []
 no_session job.Run v read failed part s is lacks says st =
-    ap (λ x. close x (session_text start_world (session_of job.Run v read failed) [])) (ap (λ x. ending_in job.Run v x (reading_end read failed)) is ∙ st)
-    ∙ ap (λ x. close s (session_text start_world x [])) (ap (session_in v) is ∙ lacks)
+    ap (λ x. close x (session_text blank_world (session_of job.Run v read failed) [])) (ap (λ x. ending_in job.Run v x (reading_end read failed)) is ∙ st)
+    ∙ ap (λ x. close s (session_text blank_world x [])) (ap (session_in v) is ∙ lacks)
 no_session job.Check v read failed part s is lacks says st =
     ap (λ x. close x (checked_text v (part_of read failed))) (ap (λ x. ending_in job.Check v x (reading_end read failed)) is ∙ st)
     ∙ ap (close s) (ap (checked_text v) is ∙ says)
@@ -99,8 +101,8 @@ rejected_session : (j : Job) (why : Refusal) (read : List ℕ) (failed : Bool) �
 rejected_session job.Run why read failed = refl
 rejected_session job.Check why read failed = refl
 
-no_order : (a b : Seen) (s : Option Session) (read : List ℕ) → s ≡ None → Does a b read [] none → OrderedIn a b start_world s [] []
-no_order a b s read e d = subst (λ x. OrderedIn a b start_world x [] []) (sym e) (refl, refl, (read, d))
+no_order : (a b : Seen) (s : Option Session) (read : List ℕ) → s ≡ None → Does a b read [] none → OrderedIn a b blank_world s [] []
+no_order a b s read e d = subst (λ x. OrderedIn a b blank_world x [] []) (sym e) (refl, refl, (read, d))
 
 no_lines_of : (s : Option Session) (n : ℕ) → s ≡ None → length (lines_of s) ≤ n
 no_lines_of s n e = omega (arith, ap (λ x. length (lines_of x)) e)
@@ -114,6 +116,7 @@ near_part_failed j a b f = record {
   read = f.read;
   few = omega (arith, f.few);
   outcomes = record { commands = []; input_failed = true; stopped = None };
+  fared = All-nil IsFineOrMemory;
   verdict = Unknown;
   judged = none_judged j _ _ f.is_none;
   text = [];
@@ -137,6 +140,7 @@ near_part_too_long j a b f =
       read = f.read;
       few = omega (arith, f.long);
       outcomes = record { commands = []; input_failed = false; stopped = None };
+      fared = All-nil IsFineOrMemory;
       verdict = Unknown;
       judged = none_judged j _ _ f.is_none;
       text = [];
@@ -158,6 +162,7 @@ refused j a b read why part few is h d far = record {
   read = read;
   few = omega (arith, few);
   outcomes = record { commands = []; input_failed = false; stopped = None };
+  fared = All-nil IsFineOrMemory;
   verdict = Rejected why;
   judged = subst (λ x. IsJudged j (Rejected why) x None) (sym is) (inl h);
   text = [];
@@ -178,7 +183,7 @@ kept_verdict j v text part e h = verdict-kept j part v (subst (λ (t : Clipped).
 
 -- what `check` says of an accepted program part
 check_answers : (read : List ℕ) (part : Part) (p : Program) → part_of read false ≡ Some part
-    → answers job.Check (Accepted p) start_world read record { commands = []; input_failed = false; stopped = None } ≡ (program_text p ++ [], Done)
+    → answers job.Check (Accepted p) blank_world read record { commands = []; input_failed = false; stopped = None } ≡ (program_text p ++ [], Done)
 check_answers read part p is =
     ap (λ x. close x (checked_text (Accepted p) (part_of read false))) (ap (λ x. ending_in job.Check (Accepted p) x (reading_end read false)) is)
     ∙ ap (λ x. close Done (checked_text (Accepted p) x)) is
@@ -194,6 +199,7 @@ said_all a b c read part p few is h d far says =
       read = read;
       few = omega (arith, few);
       outcomes = record { commands = []; input_failed = false; stopped = None };
+      fared = All-nil IsFineOrMemory;
       verdict = Accepted p;
       judged = check_judged read part p is h;
       text = program_text p;
@@ -220,6 +226,7 @@ said_front a b c read part p few is h d breaks =
       read = read;
       few = omega (arith, few);
       outcomes = record { commands = []; input_failed = false; stopped = None };
+      fared = All-nil IsFineOrMemory;
       verdict = Accepted p;
       judged = check_judged read part p is h;
       text = breaks.front;
@@ -259,7 +266,7 @@ module _ (a b : Seen) (r : Reader) (text : Clipped) (d : Divides r text a b) whe
   near_divided_refused j why h =
       refused j a b d.read why (record { text = flat_map ended d.front; lines = map without_return (split r.chunk).0 ++ (split r.chunk).1 ∷ [] }) divided_short is_divided_part (kept_verdict j (Rejected why) text (flat_map ended d.front) d.keeps h) d.does (inl has_separator)
 
-  pub divided_starts : (p : Program) (device : DeviceState) → Decides job.Run text.items (Accepted p) → Represents p (start_world p) device → Starts a b p r device
+  pub divided_starts : (p : Program) (device : DeviceState) → Decides job.Run text.items (Accepted p) → Represents p (blank_world p) device → Starts a b p r device
   divided_starts p device is rep = record {
     read = d.read;
     front = d.front;
@@ -287,6 +294,7 @@ module _ (a b : Seen) (r : Reader) (text : Clipped) (d : ReadsAll r text a b) wh
         read = d.read;
         few = omega (arith, d.few);
         outcomes = record { commands = []; input_failed = false; stopped = None };
+        fared = All-nil IsFineOrMemory;
         verdict = Accepted p;
         judged = judged_at p _ _ _ None d.is_part program;
         text = [];
@@ -296,7 +304,7 @@ module _ (a b : Seen) (r : Reader) (text : Clipped) (d : ReadsAll r text a b) wh
         whole = refl;
         answered = λ h. refl;
         calm = b;
-        ordered = subst (λ x. OrderedIn a b start_world x [] []) (sym session) (ordered_all a a b p (start_world p) [] [] d.read refl refl d.does);
+        ordered = subst (λ x. OrderedIn a b blank_world x [] []) (sym session) (ordered_all a a b p (blank_world p) [] [] d.read refl refl d.does);
         halted = b;
         halts = refl;
         last = [];

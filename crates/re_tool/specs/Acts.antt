@@ -2,9 +2,9 @@
 use Rattle.std.specs.Prelude.{ℕ, ◌≡◌, ◌++◌, List, [], ◌∷◌, length, Option, Some, None}
 use Rattle.re_outside.specs.Outside.{Seen, Does, none}
 use Rattle.re_terms.specs.declared.program.Program.{Program}
-use Rattle.re_tool.specs.Worlds.{World, Outcome}
+use Rattle.re_terms.specs.DeviceWorlds.{World, Outcome}
 use Rattle.re_commands.specs.Commanding.{commanded}
-use Rattle.re_tool.specs.Answers.{Session, first, others, line_text, line_after, lines_after}
+use Rattle.re_tool.specs.Answers.{Session, first, others, line_text, line_after}
 
 -- A line is done between two moments: it is read, then its command's own steps are made, and behind them its answer is said whole.
 pub record Act (old new : Seen) (answer : List ℕ) : Type 0 where

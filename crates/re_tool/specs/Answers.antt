@@ -1,11 +1,13 @@
 -- What a run says and how it ends, as a function of the bytes read and of the outcomes.
--- Read against: the program `device a; var x: int = 2; signal s = x + 3;` with get a s, turn a x = 5, get a s says 5, ok 1, 8;
+-- Read against: the program `device a; var x: int = 2; signal s = x + 3;` with get a s, turn a x = 5, crash a, get a s says 5, ok 1, no 19, 8;
+-- `device a; counter c; set s: int;` with turn a add c 9223372036854775807, turn a add c 1, turn a insert s 4, get a s says ok 1, no 31, ok 2, {4}, and the 4,097th turn that would be taken is answered no 29;
 -- `device a;` with and without a separator behind it says nothing; both end with status 0.
-use Rattle.std.specs.Prelude.{ℕ, ◌-◌, List, [], ◌∷◌, ◌++◌, Bool, true, false, Option, Some, None, Result, Ok, Err, if◌then◌else◌, take, codes}
+use Rattle.std.specs.Prelude.{ℕ, ◌-◌, ◌≡◌, ◌⊎◌, List, [], ◌∷◌, ◌++◌, Bool, true, false, Option, Some, None, Result, Ok, Err, if◌then◌else◌, take}
 use Rattle.re_terms.specs.declared.program.Program.{Program}
 use Rattle.re_terms.specs.declared.command.Command.{Command}
 use Rattle.re_terms.specs.Worlds.{PlainAnswer, Refused}
-use Rattle.re_tool.specs.Worlds.{World, Outcome, Fine, Memory, reply, world_after}
+use Rattle.re_terms.specs.DeviceWorlds.{World, Outcome, Fine, Memory, reply, world_after}
+use Rattle.re_tool.specs.Built.{can_be_done}
 use Rattle.re_commands.specs.declared.fault.CommandFault.{CommandFault}
 use Rattle.re_commands.specs.declared.fault.CommandFault.TheVariants as fault
 use Rattle.re_tool.specs.declared.words.Job.{Job}
@@ -25,6 +27,10 @@ pub record Outcomes : Type 0 where
   -- where the run ended for want of memory or at an answer that couldn't be said:
   -- how many lines were done, and whether all of the last one's answer counts
   pub stopped : Option (ℕ × Bool)
+
+-- what an outcome is so far: no command makes file calls or reads a store
+abbrev pub IsFineOrMemory : Outcome → Type 0
+IsFineOrMemory o = (o ≡ Fine) ⊎ (o ≡ Memory)
 
 abbrev pub first : List Outcome → Outcome
 first [] = Fine
@@ -48,12 +54,25 @@ fault_code fault.TooMany = 25
 abbrev pub Reading : Type 0
 Reading = Result (Option Command) CommandFault
 
+-- the answer to a command that can't be done so far
+abbrev pub not_done : Outcome → PlainAnswer
+not_done Memory = Refused 36
+not_done o = Refused 19
+
+-- the answer to a command
+abbrev pub command_answer : Program → World → Command → Outcome → PlainAnswer
+command_answer p w c o = if can_be_done c then reply p w c o else not_done o
+
+-- the world after a command: one that can't be done so far leaves it
+abbrev pub command_after : Program → World → Command → Outcome → World
+command_after p w c o = if can_be_done c then world_after p w c o else w
+
 -- the answer to a line: none where it holds no command, and else its command's or a refusal
 abbrev pub line_answer : Program → World → Reading → Outcome → Option PlainAnswer
 line_answer p w (Ok None) o = None
-line_answer p w (Ok (Some c)) o = Some (reply p w c o)
-line_answer p w (Err f) Fine = Some (Refused (fault_code f))
+line_answer p w (Ok (Some c)) o = Some (command_answer p w c o)
 line_answer p w (Err f) Memory = Some (Refused 36)
+line_answer p w (Err f) o = Some (Refused (fault_code f))
 
 -- an answer is a line
 abbrev pub said_answer : Program → Option PlainAnswer → List ℕ
@@ -67,7 +86,7 @@ line_text p w l o = said_answer p (line_answer p w l o)
 -- the world after a line
 abbrev pub line_after : Program → World → Reading → Outcome → World
 line_after p w (Ok None) o = w
-line_after p w (Ok (Some c)) o = world_after p w c o
+line_after p w (Ok (Some c)) o = command_after p w c o
 line_after p w (Err f) o = w
 
 -- what the lines say, one behind the other

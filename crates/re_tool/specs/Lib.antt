@@ -19,4 +19,3 @@ pub mod Session
 pub mod Status
 pub mod Verdict
 pub mod Words
-pub mod Worlds

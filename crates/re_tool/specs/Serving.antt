@@ -4,13 +4,13 @@ use Rattle.std.specs.List.{flat_map}
 use Rattle.re_terms.specs.declared.program.Program.{Program}
 use Rattle.re_terms.specs.declared.command.Answer.{Answer}
 use Rattle.re_terms.specs.Worlds.{plain_answer}
-use Rattle.re_tool.specs.Worlds.{World, Outcome, start_world}
+use Rattle.re_terms.specs.DeviceWorlds.{World, Outcome, blank_world}
 use Rattle.re_outside.specs.Outside.{Seen, Does, Breaks, none}
 use Rattle.re_tool.specs.declared.words.Job.TheVariants as job
 use Rattle.re_tool.specs.declared.reader.Reader.{Reader}
 use Rattle.re_tool.specs.declared.running.Ended.{Ended}
 use Rattle.re_tool.specs.declared.running.Ended.TheVariants as ended_by
-use Rattle.re_tool.specs.Answers.{line_text, line_after}
+use Rattle.re_tool.specs.Answers.{IsFineOrMemory, line_text, line_after}
 use Rattle.re_commands.specs.Commanding.{commanded}
 use Rattle.re_unstored.specs.Device.{DeviceState}
 use Rattle.re_tool.specs.Device.{Represents}
@@ -28,6 +28,7 @@ said_of p (Some answer) = answer_text p (plain_answer answer) ++ 10 ∷ []
 -- A line is answered as one step of each world that the device stands for.
 pub record AnswersLine (p : Program) (line : List ℕ) (before after : DeviceState) (text : List ℕ) : Type 0 where
   pub outcome : Outcome
+  pub fares : IsFineOrMemory outcome
   pub says : (w : World) → Represents p w before → text ≡ line_text p w (commanded p line) outcome
   pub world : (w : World) → Represents p w before → Represents p (line_after p w (commanded p line) outcome) after
 
@@ -66,4 +67,4 @@ pub record Starts (a b : Seen) (p : Program) (r : Reader) (device : DeviceState)
   pub taken : r.taken ≡ length read
   pub few : r.taken ≤ limit
   pub does : Does a b read [] none
-  pub represents : Represents p (start_world p) device
+  pub represents : Represents p (blank_world p) device

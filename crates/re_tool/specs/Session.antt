@@ -1,8 +1,9 @@
 -- What a whole run does.
 use Rattle.std.specs.Prelude.{ℕ, ◌≡◌, ◌≤◌, ◌+◌, ◌++◌, ◌⊎◌, length, List, [], Bool, true, false, Option, Some, None, IsSome}
-use Rattle.re_outside.specs.Outside.{Seen, FaultKind, Input, Output, Disk, Does, Fails, Breaks, IsAtEnd, Faults, none, input_fault}
+use Rattle.std.specs.List.{All}
+use Rattle.re_outside.specs.Outside.{Seen, Input, Output, Disk, Does, Fails, Breaks, IsAtEnd, Faults, none, input_fault}
 use Rattle.re_outside.specs.declared.step.Call.TheVariants as call
-use Rattle.re_tool.specs.Worlds.{start_world}
+use Rattle.re_terms.specs.DeviceWorlds.{blank_world}
 use Rattle.re_tool.specs.declared.words.Job.{Job}
 use Rattle.re_tool.specs.declared.words.Job.TheVariants as job
 use Rattle.re_tool.specs.declared.status.Status.{Status}
@@ -11,7 +12,7 @@ use Rattle.re_tool.specs.Acts.{OrderedIn}
 use Rattle.re_tool.specs.Lines.{split}
 use Rattle.re_tool.specs.Part.{Part, divided, part_of}
 use Rattle.re_tool.specs.Reads.{limit}
-use Rattle.re_tool.specs.Answers.{Outcomes, Session, answers, done}
+use Rattle.re_tool.specs.Answers.{Outcomes, IsFineOrMemory, Session, answers, done}
 use Rattle.re_tool.specs.Endings.{Ending, BadWords, InputFault, NoMemory, status_at, last_line}
 use Rattle.re_tool.specs.Verdict.{Verdict, IsJudged}
 
@@ -94,6 +95,8 @@ pub record Runs (j : Job) (old new : Seen) (s : Status) : Type 0 where
   pub read : List ℕ
   pub few : length read ≤ limit + 1
   pub outcomes : Outcomes
+  -- so far nothing but want of memory hinders a command
+  pub fared : All IsFineOrMemory outcomes.commands
   -- what the program part is
   pub verdict : Verdict
   pub judged : IsJudged j verdict (part_of read outcomes.input_failed) outcomes.stopped
@@ -101,14 +104,14 @@ pub record Runs (j : Job) (old new : Seen) (s : Status) : Type 0 where
   pub text : List ℕ
   -- the input fault and the output fault are the outcomes', and no others came
   pub does : Does old new read text (faults_of outcomes.input_failed (is_output s))
-  pub tells : Tells (answers j verdict start_world read outcomes) text s
+  pub tells : Tells (answers j verdict blank_world read outcomes) text s
   -- the answers stand whole and in order behind their commands' steps, all but perhaps the last
   pub unanswered : List (List ℕ)
   pub whole : Unanswered s unanswered
   -- and all of them where a `take` failed
   pub answered : outcomes.input_failed ≡ true → unanswered ≡ []
   pub calm : Seen
-  pub ordered : OrderedIn old calm start_world (done j verdict read outcomes) outcomes.commands unanswered
+  pub ordered : OrderedIn old calm blank_world (done j verdict read outcomes) outcomes.commands unanswered
   -- behind them a `take` may have failed, and then the rest of the text is said
   pub halted : Seen
   pub halts : Halts outcomes.input_failed calm halted

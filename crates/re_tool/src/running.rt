@@ -1,7 +1,7 @@
 //! A whole run over a stream.
 ghost use Rattle.std.specs.Prelude.{ℕ, ◌≡◌, ◌≢◌, ◌≤◌, ◌<◌, ◌+◌, ◌-◌, ◌⊎◌, [], true, length, IfOk, IfSome, OnOk, OnErr, Some, Err};
 ghost use Rattle.re_outside.specs.Outside.{Seen, Does, Breaks, none};
-ghost use Rattle.re_terms.specs.Admission.{IsAdmitted, IsCommandOf};
+ghost use Rattle.re_terms.specs.Admission.{IsAdmitted, IsCommandOf, device_count};
 ghost use Rattle.re_terms.specs.Programs.{IsProgram};
 ghost use Rattle.re_terms.specs.Worlds.{is_set_at};
 ghost use Rattle.re_tool.specs.Answers.{fault_code};
@@ -95,7 +95,7 @@ fn is_set(p: &Program, id: u16) -> bool
 
 /// What `get` shows of a name: a set's pairs, or a word. The one refusal is want of memory, for a set.
 fn shown(alloc: Global, device: &Unstored, id: u16) -> Answer
-    ensures steps { (number : ℕ) → StepsTo device.now device.now (Command.Get number id) result }
+    ensures steps { (number : ℕ) → number < device_count device.now.program.decls.items → StepsTo device.now device.now (Command.Get number id) result }
     ensures ascends { AscendsWhereSet result }
 {
     if !is_set(device.program(), id) {
@@ -110,7 +110,7 @@ fn shown(alloc: Global, device: &Unstored, id: u16) -> Answer
 /// Takes a turn, and gives its answer. A refused turn changes nothing.
 fn take_turn<L: Ledger>(device: &mut Unstored, steps: &mut Steps<L>, turn: Admitted) -> Answer
     requires { IsAdmitted device.old.program turn.turn }
-    ensures steps { (number : ℕ) → StepsTo device.old device.new (Command.Turn number turn) result }
+    ensures steps { (number : ℕ) → number < device_count device.old.program.decls.items → StepsTo device.old device.new (Command.Turn number turn) result }
     ensures program { device.new.program ≡ device.old.program }
     ensures ascends { AscendsWhereSet result }
 {

@@ -9,4 +9,4 @@ pub returns-clause-limits : goal.returns-clause-limits
 returns-clause-limits c = λ p w line device turn f is. (limit_only p w (commanded p line) device turn is f, limit_always p w (commanded p line) device turn is f)
 
 pub returns-clause-only : goal.returns-clause-only
-returns-clause-only c = λ p w line o code many few h. only_turns p w (commanded p line) o code many few h
+returns-clause-only c = λ p w line o code many few h. only_turns p w code many few (commanded p line) o h

@@ -1,16 +1,17 @@
 use Rattle.std.proofs.Common.{◌++◌, ◌∷◌, [], ap, ◌∙◌}
 use Rattle.re_terms.specs.Runs.{plain_view}
 use Rattle.re_terms.specs.Worlds.{is_set_body}
-use Rattle.re_tool.specs.Worlds.{world_state, Fine}
+use Rattle.re_terms.specs.DeviceWorlds.{device_state, Fine}
 use Rattle.re_print.specs.AnswerTexts.{answer_text}
 use Rattle.re_print.specs.Canonical.{word_text}
 use Rattle.re_tool.specs.Answers.{line_text}
 use Rattle.re_tool.proofs.Meanings.{signal_word-meaning}
-use Rattle.re_tool.proofs.VarWords.{shown_value}
+use Rattle.re_tool.proofs.VarWords.{got_text, shown_value}
 use Rattle.re_tool.proofs.laws.signal_law.Goals as goal
 
 pub returns : goal.returns
-returns c = λ p w line device id d kind expr h get at is.
+returns c = λ p w line device id d kind expr h get up stop at is.
     ap (λ l. line_text p w l Fine) get
-    ∙ ap (λ a. answer_text p a ++ 10 ∷ []) (shown_value p (world_state p w) id d at (ap is_set_body is))
-    ∙ ap (λ word. word_text p word ++ 10 ∷ []) (signal_word-meaning p (world_state p w).words (plain_view p (world_state p w)) id d kind expr h at is)
+    ∙ got_text p w device id up stop
+    ∙ ap (λ a. answer_text p a ++ 10 ∷ []) (shown_value p (device_state p w device) id d at (ap is_set_body is))
+    ∙ ap (λ word. word_text p word ++ 10 ∷ []) (signal_word-meaning p (device_state p w device).words (plain_view p (device_state p w device)) id d kind expr h at is)

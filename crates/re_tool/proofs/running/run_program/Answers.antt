@@ -23,4 +23,4 @@ returns-then-not-opened g c = λ start text h is. all_done _ _ _ _ (part_is_all 
 pub returns : goal.returns
 returns g c = λ start text h is.
     c.serve.ensures start (subst (λ (d : DeviceState). Starts start (g.O.Outside.seen c.args.out.now) d.program c.args.reader.now d) (sym c.in-Ok.ensures)
-    (divided_starts _ _ _ _ (part_is_divided _ _ _ _ _ (not_false _ c.if-not-opened.false) h) c.args.opened.program (started c.args.opened.program 0) is (started-represents c.args.opened.program)))
+    (divided_starts _ _ _ _ (part_is_divided _ _ _ _ _ (not_false _ c.if-not-opened.false) h) c.args.opened.program (started c.args.opened.program 0) is (started-represents c.args.opened.program c.requires.program is.has.1)))

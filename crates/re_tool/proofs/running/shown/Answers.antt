@@ -10,9 +10,9 @@ use Rattle.re_tool.proofs.running.shown.Goals as goal
 pub returns-then-not-is_set-clause-steps : goal.returns-then-not-is_set-clause-steps
 returns-then-not-is_set-clause-steps c =
     let other : is_set_at c.args.device.now.program.decls.items c.args.id ≡ false = ap (λ (q : Program). is_set_at q.decls.items c.args.id) (sym c.program.ensures.program) ∙ sym c.is_set.ensures ∙ c.if-not-is_set.true in
-    λ number. got c.args.device.now number c.args.id c.word.result other c.word.ensures
+    λ number below. got c.args.device.now number c.args.id below c.word.result other c.word.ensures
 
 pub returns-in-Ok-clause-steps : goal.returns-in-Ok-clause-steps
 returns-in-Ok-clause-steps c =
     let set : is_set_at c.args.device.now.program.decls.items c.args.id ≡ true = ap (λ (q : Program). is_set_at q.decls.items c.args.id) (sym c.program.ensures.program) ∙ sym c.is_set.ensures ∙ c.if-not-is_set.false in
-    λ number. got_set c.args.device.now number c.args.id c.in-Ok.pairs set (c.pairs.ensures.shown ∙ ap (λ (x : Listed Pair). Some (cell.Set x)) (sym c.in-Ok.ensures))
+    λ number below. got_set c.args.device.now number c.args.id below c.in-Ok.pairs set (c.pairs.ensures.shown ∙ ap (λ (x : Listed Pair). Some (cell.Set x)) (sym c.in-Ok.ensures))
