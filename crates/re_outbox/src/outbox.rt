@@ -41,6 +41,13 @@ impl Outbox {
         self.state = state;
     }
 
+    /// The state that was settled last. It takes no memory.
+    pub fn state(&self) -> &RState
+        ensures { result.now ≡ self.now }
+    {
+        &self.state
+    }
+
     /// The packet of the state that was settled last: its bytes stand in docs/FORMATS.md. The one refusal is want of memory.
     ///
     /// The condition is that the state fits the shape, which is one that a program can have.

@@ -80,6 +80,14 @@ pub record HasBadRecord (p : Program) (device : ℕ) (body : List ℕ) (bodies :
   -- a gate and four bytes of length stand before the record
   pub place_is : place ≡ length (front body before) + 5 + k
 
+-- the snapshot reads, and with the entries of the records behind it this is what a device has
+pub record ComesTo (p : Program) (device : ℕ) (body : List ℕ) (bodies : List (List ℕ)) (o : Opened) : Type 0 where
+  pub snapshot : Snapshot
+  pub entries : List Logged
+  pub reads : HasSnapshot p device body snapshot
+  pub records : AreRecordsOf p device (laid snapshot) bodies entries
+  pub opened : o ≡ after_all p device entries (laid snapshot)
+
 -- ---- stores
 
 -- the two files are this; lengths, bodies and gates are read first, then the snapshot, and then the records in order

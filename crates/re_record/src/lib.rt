@@ -17,5 +17,5 @@ mod turns;
 mod writing;
 
 pub use fault::SnapshotFault;
-pub use records::{get_entries, put_entries};
+pub use records::{get_entries, put_entries, put_record, put_record_with};
 pub use snapshots::{Snapshot, get_snapshot, put_snapshot};

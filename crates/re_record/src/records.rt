@@ -1,6 +1,6 @@
 //! Records: the entries of one commit, with the changes of each, as bytes.
-ghost use Rattle.std.specs.Prelude.{◌≡◌, ℕ, ◌^◌, ◌<◌, ◌≤◌, ◌++◌, List, length, IfOk, Ok, OnOk};
-ghost use Rattle.std.specs.List.{All};
+ghost use Rattle.std.specs.Prelude.{◌≡◌, ℕ, ◌^◌, ◌<◌, ◌≤◌, ◌++◌, ◌∷◌, [], List, length, IfOk, Ok, OnOk};
+ghost use Rattle.std.specs.List.{All, flat_map};
 ghost use Rattle.re_outside.specs.Listed.{plain};
 ghost use Rattle.re_record.specs.Logs.{IsRecord, IsRecordOf, HasBytes};
 ghost use Rattle.re_record.specs.Reading.{entry_count_at, logged_at, record_at};
@@ -103,18 +103,56 @@ pub fn get_entries(
     record(alloc, bytes, p, shape)
 }
 
+/// Writes entries, each with its changes. The one refusal is want of memory.
+fn write_all(out: &mut Bytes, entries: &[Logged], shape: &Shape) -> Result<(), AllocError>
+    requires shape { IsShape shape.now }
+    requires bytes { All (HasBytes shape.now) entries.now }
+    ensures { OnOk result (out.new ≡ appended out.old (flat_map (logged_bytes shape.now.devices) entries.now)) }
+{
+    for logged in entries {
+        write_logged(out, logged, shape)?;
+    }
+    Ok(())
+}
+
 /// The record of 1 to 9 entries with their changes. Nothing is reserved behind it. The one refusal is want of memory.
 /// `docs/FORMATS.md` has the layout.
-#[tactic(auto, unfolding(crate::specs::Spellings::record_bytes))]
 pub fn put_entries(alloc: Global, entries: &Seq<Logged>, shape: &Shape) -> Result<Bytes, AllocError>
     requires shape { IsShape shape.now }
     requires bytes { IsRecord shape.now entries.now.items }
     ensures { IfOk result (λ out. out ≡ plain (record_bytes shape.now.devices entries.now.items)) }
 {
+    put_record(alloc, entries.as_slice(), shape)
+}
+
+/// The same of entries that lie in a longer list.
+#[tactic(auto, unfolding(crate::specs::Spellings::record_bytes))]
+pub fn put_record(alloc: Global, entries: &[Logged], shape: &Shape) -> Result<Bytes, AllocError>
+    requires shape { IsShape shape.now }
+    requires bytes { IsRecord shape.now entries.now }
+    ensures { IfOk result (λ out. out ≡ plain (record_bytes shape.now.devices entries.now)) }
+{
     let mut out = Bytes::new(alloc);
     write(&mut out, &[entries.len() as u8])?;
-    for logged in entries.as_slice() {
-        write_logged(&mut out, logged, shape)?;
-    }
+    write_all(&mut out, entries, shape)?;
+    Ok(out)
+}
+
+/// The same of entries, and of one more behind them.
+#[tactic(auto, unfolding(crate::specs::Spellings::record_bytes))]
+pub fn put_record_with(
+    alloc: Global,
+    before: &[Logged],
+    last: &Logged,
+    shape: &Shape,
+) -> Result<Bytes, AllocError>
+    requires shape { IsShape shape.now }
+    requires bytes { IsRecord shape.now (before.now ++ last.now ∷ []) }
+    ensures { IfOk result (λ out. out ≡ plain (record_bytes shape.now.devices (before.now ++ last.now ∷ []))) }
+{
+    let mut out = Bytes::new(alloc);
+    write(&mut out, &[before.len() as u8 + 1])?;
+    write_all(&mut out, before, shape)?;
+    write_logged(&mut out, last, shape)?;
     Ok(out)
 }
