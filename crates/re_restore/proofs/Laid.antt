@@ -18,7 +18,7 @@ use Rattle.re_record.specs.Spellings.{head_bytes, kept_bytes, owner_bytes, snaps
 use Rattle.re_record.proofs.LoggedLengths.{generation_is, snapshot_long, snapshot_some}
 use Rattle.re_record.specs.Restoring.{unopened}
 use Rattle.re_restore.specs.Opening.{start_snapshot}
-use Rattle.re_restore.specs.Reading.{ComesTo}
+use Rattle.re_record.specs.Stores.{ComesTo}
 use Rattle.re_terms.specs.Programs.{IsProgram}
 use Rattle.re_terms.specs.Shapes.{shape_of, start_state}
 use Rattle.re_terms.specs.declared.entry.State.{State}

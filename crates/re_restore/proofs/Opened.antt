@@ -4,9 +4,9 @@ use Rattle.re_outside.specs.Frame as frame
 use Rattle.re_outside.specs.Frame.{HasStoreFrame}
 use Rattle.re_record.specs.Restoring.{Opened, unopened}
 use Rattle.re_record.specs.Snapshots.{HasOtherText}
-use Rattle.re_record.specs.Stores.{Bad, Blank, HasStore, OpensTo, OtherProgram, Store}
+use Rattle.re_record.specs.Stores.{Bad, Blank, ComesTo, HasStore, OpensTo, OtherProgram, Store}
 use Rattle.re_terms.specs.declared.program.Program.{Program}
-use Rattle.re_restore.specs.Reading.{ComesTo, IsRefusedStore}
+use Rattle.re_restore.specs.Reading.{IsRefusedStore}
 
 -- a store opens to what its snapshot and records come to
 pub opens_store : (p : Program) (device file : ℕ) (a b body : List ℕ) (bodies : List (List ℕ)) (o : Opened) → HasStoreFrame a b (frame.Store file body bodies) → ComesTo p device body bodies o → OpensTo p device a b o

@@ -17,8 +17,7 @@ use Rattle.re_compact.specs.declared.fault.OpenFault.TheVariants.{Memory, Disk, 
 use Rattle.re_record.specs.Restoring.{Opened, unopened}
 use Rattle.re_record.specs.Spellings.{snapshot_bytes}
 use Rattle.re_record.specs.Stores as stores
-use Rattle.re_record.specs.Stores.{OpensTo}
-use Rattle.re_restore.specs.Reading.{ComesTo}
+use Rattle.re_record.specs.Stores.{ComesTo, OpensTo}
 use Rattle.re_restore.specs.declared.opening.Restored.{Restored}
 use Rattle.re_terms.specs.Shapes.{start_state}
 use Rattle.re_terms.specs.WordKinds.{IsStateOf}

@@ -7,14 +7,6 @@ use Rattle.re_record.specs.declared.snapshots.Snapshot.{Snapshot}
 use Rattle.re_terms.specs.declared.entry.Logged.{Logged}
 use Rattle.re_terms.specs.declared.program.Program.{Program}
 
--- the snapshot reads, and with the entries of the records behind it this is what a device has
-pub record ComesTo (p : Program) (device : ℕ) (body : List ℕ) (bodies : List (List ℕ)) (o : Opened) : Type 0 where
-  pub snapshot : Snapshot
-  pub entries : List Logged
-  pub reads : HasSnapshot p device body snapshot
-  pub records : AreRecordsOf p device (laid snapshot) bodies entries
-  pub opened : o ≡ after_all p device entries (laid snapshot)
-
 -- the snapshot or a record behind it is refused, at this place of the file
 abbrev pub IsRefusedStore : Program → ℕ → List ℕ → List (List ℕ) → ℕ → Type 0
 IsRefusedStore p device body bodies place = HasBadSnapshot p device body place ⊎ HasBadRecord p device body bodies place

@@ -3,7 +3,8 @@ ghost use Rattle.std.specs.Prelude.{◌≡◌, ◌<◌, ◌≤◌, ◌+◌, ◌^
 ghost use Rattle.std.specs.List.{All, flat_map};
 ghost use Rattle.re_outside.specs.Frame.{IsGeneration, IsSnapshotLength, generation, opened};
 ghost use Rattle.re_record.specs.Snapshots.{HasOtherText};
-ghost use Rattle.re_restore.specs.Reading.{ComesTo, IsRefusedStore};
+ghost use Rattle.re_restore.specs.Reading.{IsRefusedStore};
+ghost use Rattle.re_record.specs.Stores.{ComesTo};
 ghost use Rattle.re_restore.specs.Replaying.{items_of};
 ghost use Rattle.re_restore.specs.declared.stores.StoreFault.TheVariants.{At, OtherProgram};
 ghost use Rattle.re_terms.specs.Admission.{device_count};

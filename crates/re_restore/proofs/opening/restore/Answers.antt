@@ -13,13 +13,12 @@ use Rattle.re_compact.specs.Pair.{StandsIn}
 use Rattle.re_compact.specs.declared.fault.OpenFault.{OpenFault}
 use Rattle.re_compact.specs.declared.fault.OpenFault.TheVariants.{BadStore, OtherProgram}
 use Rattle.re_record.specs.Restoring.{unopened}
-use Rattle.re_record.specs.Stores.{OpensTo}
+use Rattle.re_record.specs.Stores.{ComesTo, OpensTo}
 use Rattle.re_record.proofs.LoggedLengths.{generation_is}
 use Rattle.re_terms.specs.Programs.{IsProgram}
 use Rattle.re_terms.specs.Shapes.{start_state}
 use Rattle.re_terms.specs.declared.program.Program.{Program}
 use Rattle.re_restore.specs.Opening.{StandsOpened, lay_steps, opened_as, start_snapshot}
-use Rattle.re_restore.specs.Reading.{ComesTo}
 use Rattle.re_restore.specs.declared.opening.Restored.{Restored}
 use Rattle.re_restore.proofs.Decided.{answers, finds_no_program, not_bad, not_other}
 use Rattle.re_restore.proofs.RestoreSteps.{blank_steps, not_found, own_plan, store_steps}
