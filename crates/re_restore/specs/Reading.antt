@@ -1,10 +1,7 @@
--- What the snapshot and the records of one file come to.
--- Read against: with `device a; var x: int = 0;` the snapshot of the start, in a file of 110 bytes, and the record of the turn x = 5 behind it come to x = 5 and the number 1; with a tag of 2 at the word of x they are refused at 58, and with one at the entry at 81.
-use Rattle.std.specs.Prelude.{◌≡◌, ℕ, ◌⊎◌, List}
-use Rattle.re_record.specs.Restoring.{Opened, after_all}
-use Rattle.re_record.specs.Stores.{AreRecordsOf, HasBadRecord, HasBadSnapshot, HasSnapshot, laid}
-use Rattle.re_record.specs.declared.snapshots.Snapshot.{Snapshot}
-use Rattle.re_terms.specs.declared.entry.Logged.{Logged}
+-- Which snapshot or record of one file is refused.
+-- Read against: with `device a; var x: int = 0;` the snapshot of the start and the record of the turn x = 5 behind it, in a file of 110 bytes, aren't refused; with a tag of 2 at the word of x they are refused at 58, and with one at the entry at 81.
+use Rattle.std.specs.Prelude.{ℕ, ◌⊎◌, List}
+use Rattle.re_record.specs.Stores.{HasBadRecord, HasBadSnapshot}
 use Rattle.re_terms.specs.declared.program.Program.{Program}
 
 -- the snapshot or a record behind it is refused, at this place of the file
