@@ -1,0 +1,12 @@
+pub mod DueSnapshots
+pub mod Entered
+pub mod LimitFaults
+pub mod Memories
+pub mod Placed
+pub mod Puts
+pub mod Reading
+pub mod Records
+pub mod Results
+pub mod SetPlaces
+pub mod Settling
+pub mod Shown

@@ -1,0 +1,9 @@
+pub mod Advancing
+pub mod Committing
+pub mod Device
+pub mod Keeping
+pub mod Placing
+pub mod Ready
+pub mod Refusals
+pub mod Standing
+pub mod Taking
