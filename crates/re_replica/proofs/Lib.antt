@@ -4,6 +4,6 @@ pub mod Applied
 pub mod Bits
 pub mod Merged
 pub mod Pairs
-pub mod Represented
+pub mod ReplicaOf
 pub mod Samples
 pub mod Shaped

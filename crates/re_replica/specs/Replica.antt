@@ -22,7 +22,7 @@ pub record IsReplica (r : ReplicaState) : Type 0 where
   pub fits : FitsShape r.shape r.state
 
 -- the replica's state is that of what the vector covers of an update log, all updates of its own device among them
-pub record Represents (log : List Update) (v : List ℕ) (r : ReplicaState) : Type 0 where
+pub record IsReplicaOf (log : List Update) (v : List ℕ) (r : ReplicaState) : Type 0 where
   pub causal : IsCausalLog log
   pub closed : IsCausallyClosed log v
   pub places : length v ≡ 16

@@ -10,7 +10,7 @@ ghost use Rattle.re_terms.specs.Values.{view_of_updates};
 ghost use Rattle.re_terms.specs.Vectors.{join_vectors, with_dot};
 ghost use Rattle.re_terms.specs.Views.{view_of};
 ghost use Rattle.re_replica.specs.Changed.{has_bit};
-ghost use Rattle.re_replica.specs.Replica.{Represents, is_insert};
+ghost use Rattle.re_replica.specs.Replica.{IsReplicaOf, is_insert};
 
 use crate::acting::{act_at, next_dot};
 use crate::fault::{Changed, ReplicaFault};
@@ -72,7 +72,7 @@ impl Replica {
         requires { is_operation_in self.old.shape op.now ≡ true }
         ensures ok { OnOk result (self.new ≡ record self.old { state = after_operation self.old.shape self.old.device op.now self.old.state }) }
         ensures updates { OnOk result ((log : List Update) (v : List ℕ) → IsCausalLog log → IsCausallyClosed log v → self.old.state ≡ state_of_updates self.old.shape (covered log v) → self.new.state ≡ state_of_updates self.old.shape (covered log v ++ next_update log v self.old.device op.now ∷ [])) }
-        ensures causal { OnOk result ((log : List Update) (v : List ℕ) → Represents log v self.old → Represents (log ++ next_update log v self.old.device op.now ∷ []) (with_dot v (next_update log v self.old.device op.now).dot) self.new) }
+        ensures causal { OnOk result ((log : List Update) (v : List ℕ) → IsReplicaOf log v self.old → IsReplicaOf (log ++ next_update log v self.old.device op.now ∷ []) (with_dot v (next_update log v self.old.device op.now).dot) self.new) }
         ensures room { OnOk result (operation_fault self.old.shape self.old.device op.now self.old.state ≡ None) }
         ensures dots_spent { (result ≡ Err ReplicaFault.DotsSpent) ↔ (operation_fault self.old.shape self.old.device op.now self.old.state ≡ Some DotsSpent) }
         ensures set_full { (result ≡ Err ReplicaFault.SetFull) ↔ (operation_fault self.old.shape self.old.device op.now self.old.state ≡ Some SetFull) }
@@ -97,7 +97,7 @@ impl Replica {
         requires { FitsShape self.old.shape other.now }
         ensures joined { OnOk result (self.new ≡ record self.old { state = join_states self.old.state other.now }) }
         ensures updates { OnOk result ((log : List Update) (v w : List ℕ) → IsCausalLog log → IsCausallyClosed log v → IsCausallyClosed log w → self.old.state ≡ state_of_updates self.old.shape (covered log v) → other.now ≡ state_of_updates self.old.shape (covered log w) → self.new.state ≡ state_of_updates self.old.shape (covered log (join_vectors v w))) }
-        ensures causal { OnOk result ((log : List Update) (v w : List ℕ) → Represents log v self.old → IsCausallyClosed log w → length w ≡ 16 → other.now ≡ state_of_updates self.old.shape (covered log w) → Represents log (join_vectors v w) self.new) }
+        ensures causal { OnOk result ((log : List Update) (v w : List ℕ) → IsReplicaOf log v self.old → IsCausallyClosed log w → length w ≡ 16 → other.now ≡ state_of_updates self.old.shape (covered log w) → IsReplicaOf log (join_vectors v w) self.new) }
         ensures changed { IfOk result (λ changed. (place : ℕ) → place < length self.old.state.cells.items → (has_bit changed.cells place ≡ false) ↔ (slice_get self.new.state.cells.items place ≡ slice_get self.old.state.cells.items place)) }
         ensures only { IfOk result (λ changed. changed.cells < 2 ^ length self.old.state.cells.items) }
         ensures room { OnOk result (sum_by pair_count (join_states self.old.state other.now).cells.items ≤ 1024) }

@@ -30,7 +30,7 @@ pub record World : Type 0 where
   pub reads : ℕ → Bool
   -- how many entries it took since it was opened
   pub count : ℕ → ℕ
-  -- the number of the call that failed, among its file calls since it was opened
+  -- the number of the call that failed, among its writes, cuts and syncs since its opening ended
   pub stop : ℕ → Option ℕ
   pub up : ℕ → Bool
   -- the packets, each by its updates

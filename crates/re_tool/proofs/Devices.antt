@@ -43,13 +43,13 @@ use Rattle.re_unstored.specs.declared.fault.DeviceFault.{DeviceFault}
 use Rattle.re_unstored.specs.declared.fault.DeviceFault.TheVariants as fault
 use Rattle.re_tool.specs.Answers.{IsFineOrMemory, command_answer, command_after}
 use Rattle.re_tool.specs.Built.{can_be_done, is_built}
-use Rattle.re_tool.specs.Device.{Represents, StepsTo, turn_fault_code}
+use Rattle.re_tool.specs.Device.{IsDeviceOf, StepsTo, turn_fault_code}
 use Rattle.re_tool.proofs.Commands.{memory_answer, memory_changes, not_built_after, not_built_answer, running_get, running_turn, turn_running}
 use Rattle.re_tool.proofs.Histories.{start_running}
 
 -- the device at the start
-pub started-represents : (p : Program) → IsProgram p → is_built p ≡ true → Represents p (blank_world p) (started p 0)
-started-represents p h only = record {
+pub started_is_device : (p : Program) → IsProgram p → is_built p ≡ true → IsDeviceOf p (blank_world p) (started p 0)
+started_is_device p h only = record {
   program = refl;
   only = only;
   place = refl;
@@ -63,12 +63,12 @@ started-represents p h only = record {
 -- ---- what the device has taken in
 
 -- by all entries it has taken in what it has by the settled ones
-same_taken : (p : Program) (w : World) (d : DeviceState) → Represents p w d → settled_taken w 0 ≡ (device_state p w 0).taken
+same_taken : (p : Program) (w : World) (d : DeviceState) → IsDeviceOf p w d → settled_taken w 0 ≡ (device_state p w 0).taken
 same_taken p w d is =
     ap (run_taken 0 (w.base 0).taken) (sym (append-nil (w.settled 0)) ∙ ap (λ l. w.settled 0 ++ l) (sym is.running.unsettled))
     ∙ sym (device-taken p w 0)
 
-is_taken : (p : Program) (w : World) (d : DeviceState) → Represents p w d → IsTakenIn w.log 0 (device_state p w 0).taken
+is_taken : (p : Program) (w : World) (d : DeviceState) → IsDeviceOf p w d → IsTakenIn w.log 0 (device_state p w 0).taken
 is_taken p w d is = subst (IsTakenIn w.log 0) (same_taken p w d is) is.taken
 
 -- ---- what the device's replicated cells are
@@ -78,20 +78,20 @@ shows : (p : Program) (log us : List Update) → IsTakenIn log 0 us → view_of 
 shows p log us is = view_is (shape_of p) us (taken_devices log us 0 is)
 
 -- after a turn's operations
-rep_is : (p : Program) (w : World) (d : DeviceState) (t : Admitted) → Represents p w d → rep_after d t.turn ≡ state_of_updates (shape_of p) (taken_after 0 (device_state p w 0).taken (turn_entry t))
+rep_is : (p : Program) (w : World) (d : DeviceState) (t : Admitted) → IsDeviceOf p w d → rep_after d t.turn ≡ state_of_updates (shape_of p) (taken_after 0 (device_state p w 0).taken (turn_entry t))
 rep_is p w d t is =
     (λ i. after_operations (shape_of (is.program i)) (is.place i) t.turn.ops.items (is.state.rep i))
     ∙ sym (taken_state (shape_of p) w.log (device_state p w 0).taken 0 t.turn.ops.items (is_taken p w d is))
 
-old_view : (p : Program) (w : World) (d : DeviceState) → Represents p w d → view_of d.state.rep ≡ plain_view p (device_state p w 0)
+old_view : (p : Program) (w : World) (d : DeviceState) → IsDeviceOf p w d → view_of d.state.rep ≡ plain_view p (device_state p w 0)
 old_view p w d is = ap view_of is.state.rep ∙ shows p w.log (device_state p w 0).taken (is_taken p w d is)
 
-new_view : (p : Program) (w : World) (d : DeviceState) (t : Admitted) → Represents p w d → view_of (rep_after d t.turn) ≡ view_of_updates (shape_of p) (taken_after 0 (device_state p w 0).taken (turn_entry t))
+new_view : (p : Program) (w : World) (d : DeviceState) (t : Admitted) → IsDeviceOf p w d → view_of (rep_after d t.turn) ≡ view_of_updates (shape_of p) (taken_after 0 (device_state p w 0).taken (turn_entry t))
 new_view p w d t is = ap view_of (rep_is p w d t is) ∙ shows p _ (taken_after 0 (device_state p w 0).taken (turn_entry t)) (taken_made w.log (device_state p w 0).taken 0 t.turn.ops.items (is_taken p w d is))
 
 -- ---- one turn
 
-step_is : (p : Program) (w : World) (d : DeviceState) (t : Admitted) → Represents p w d → turn_step d t.turn ≡ step_to p (device_state p w 0) (turn_entry t) (taken_after 0 (device_state p w 0).taken (turn_entry t))
+step_is : (p : Program) (w : World) (d : DeviceState) (t : Admitted) → IsDeviceOf p w d → turn_step d t.turn ≡ step_to p (device_state p w 0) (turn_entry t) (taken_after 0 (device_state p w 0).taken (turn_entry t))
 step_is p w d t is = λ i. record {
   words = is.state.words i;
   old_view = old_view p w d is i;
@@ -101,11 +101,11 @@ step_is p w d t is = λ i. record {
 }
 
 -- the world's device takes no more exactly where the device doesn't
-full_is : (p : Program) (w : World) (d : DeviceState) (b : Bool) → Represents p w d → is_full (length d.entries) d.number ≡ b → takes_no_more w 0 ≡ b
+full_is : (p : Program) (w : World) (d : DeviceState) (b : Bool) → IsDeviceOf p w d → is_full (length d.entries) d.number ≡ b → takes_no_more w 0 ≡ b
 full_is p w d b is h = sym (ap (λ n. is_full n (last_number w 0)) is.count) ∙ sym (ap (is_full (length d.entries)) is.number) ∙ h
 
 -- the same limit stands against a turn's operations
-fault_is : (p : Program) (w : World) (d : DeviceState) (t : Admitted) (f : Option OperationFault) → Represents p w d → IsAdmitted d.program t.turn → turn_fault d t.turn ≡ f → limit_fault p w (command.Turn 0 t) ≡ f
+fault_is : (p : Program) (w : World) (d : DeviceState) (t : Admitted) (f : Option OperationFault) → IsDeviceOf p w d → IsAdmitted d.program t.turn → turn_fault d t.turn ≡ f → limit_fault p w (command.Turn 0 t) ≡ f
 fault_is p w d t f is admitted h =
     let allowed : list_all (is_operation_in (shape_of p)) t.turn.ops.items ≡ true = subst (λ q. list_all (is_operation_in (shape_of q)) t.turn.ops.items ≡ true) is.program admitted.operations in
     ap (updates_fault (shape_of p) 0 t.turn.ops.items) (sym (device-taken p w 0))
@@ -114,7 +114,7 @@ fault_is p w d t f is admitted h =
     ∙ h
 
 -- the device after a turn
-turned : (p : Program) (w : World) (d : DeviceState) (t : Admitted) → Represents p w d → Represents p (counted (settle w 0 (w.unsettled 0 ++ turn_entry t ∷ [])) 0) (after_turn d t.turn)
+turned : (p : Program) (w : World) (d : DeviceState) (t : Admitted) → IsDeviceOf p w d → IsDeviceOf p (counted (settle w 0 (w.unsettled 0 ++ turn_entry t ∷ [])) 0) (after_turn d t.turn)
 turned p w d t is =
     let own = w.unsettled 0 ++ turn_entry t ∷ [] in
     let new = counted (settle w 0 own) 0 in
@@ -140,7 +140,7 @@ turned p w d t is =
 -- ---- commands of the one device
 
 -- a device of the one program that there is has the number 0
-number_is : (p : Program) (w : World) (d : DeviceState) (number : ℕ) → number < device_count d.program.decls.items → Represents p w d → number ≡ 0
+number_is : (p : Program) (w : World) (d : DeviceState) (number : ℕ) → number < device_count d.program.decls.items → IsDeviceOf p w d → number ≡ 0
 number_is p w d number below is =
     let all : number < device_count p.decls.items = subst (λ (q : Program). number < device_count q.decls.items) is.program below in
     one (device_count p.decls.items) is.only all
@@ -150,14 +150,14 @@ number_is p w d number below is =
 
 -- a command for a device of the program is one for device 0
 for_first : (before after : DeviceState) (f : ℕ → Command) (number : ℕ) (a : Answer) (o : Outcome) → number < device_count before.program.decls.items → IsFineOrMemory o
-    → ((p : Program) (w : World) → Represents p w before → plain_answer a ≡ command_answer p w (f 0) o)
-    → ((p : Program) (w : World) → Represents p w before → Represents p (command_after p w (f 0) o) after)
+    → ((p : Program) (w : World) → IsDeviceOf p w before → plain_answer a ≡ command_answer p w (f 0) o)
+    → ((p : Program) (w : World) → IsDeviceOf p w before → IsDeviceOf p (command_after p w (f 0) o) after)
     → StepsTo before after (f number) a
 for_first before after f number a o below fares answers world = record {
   outcome = o;
   fares = fares;
   answers = λ p w is. subst (λ n. plain_answer a ≡ command_answer p w (f n) o) (sym (number_is p w before number below is)) (answers p w is);
-  world = λ p w is. subst (λ n. Represents p (command_after p w (f n) o) after) (sym (number_is p w before number below is)) (world p w is);
+  world = λ p w is. subst (λ n. IsDeviceOf p (command_after p w (f n) o) after) (sym (number_is p w before number below is)) (world p w is);
 }
 
 -- a command for which memory ran out
@@ -166,7 +166,7 @@ command_halted d after c e = record {
   outcome = Memory;
   fares = inr refl;
   answers = λ p w is. sym (memory_answer p w c);
-  world = λ p w is. subst (λ v. Represents p v after) (sym (memory_changes p w c)) (subst (Represents p w) (sym e) is);
+  world = λ p w is. subst (λ v. IsDeviceOf p v after) (sym (memory_changes p w c)) (subst (IsDeviceOf p w) (sym e) is);
 }
 
 -- a command that can't be done so far
@@ -175,24 +175,24 @@ command_not_built d c b = record {
   outcome = Fine;
   fares = inl refl;
   answers = λ p w is. sym (not_built_answer p w c Fine b (λ e. absurd (cc)));
-  world = λ p w is. subst (λ v. Represents p v d) (sym (not_built_after p w c Fine b)) is;
+  world = λ p w is. subst (λ v. IsDeviceOf p v d) (sym (not_built_after p w c Fine b)) is;
 }
 
 module _ (d after : DeviceState) (number : ℕ) (t : Admitted) (below : number < device_count d.program.decls.items) where
   -- a turn that the world's device refuses with this code leaves the device
-  refused_so : (code : ℕ) → after ≡ d → ((p : Program) (w : World) → Represents p w d → refusal p w (command.Turn 0 t) ≡ Some (Refused code)) → StepsTo d after (command.Turn number t) (answer.No code)
+  refused_so : (code : ℕ) → after ≡ d → ((p : Program) (w : World) → IsDeviceOf p w d → refusal p w (command.Turn 0 t) ≡ Some (Refused code)) → StepsTo d after (command.Turn number t) (answer.No code)
   refused_so code e why =
       for_first d after (λ n. command.Turn n t) number (answer.No code) Fine below (inl refl)
       (λ p w is. sym (ap (λ r. unwrap_or r (Entered (last_number w 0 + 1))) (why p w is)))
-      (λ p w is. subst (λ r. Represents p (option_map_or (λ refused. w) r (counted (settle w 0 (w.unsettled 0 ++ turn_entry t ∷ [])) 0)) after) (sym (why p w is)) (subst (Represents p w) (sym e) is))
+      (λ p w is. subst (λ r. IsDeviceOf p (option_map_or (λ refused. w) r (counted (settle w 0 (w.unsettled 0 ++ turn_entry t ∷ [])) 0)) after) (sym (why p w is)) (subst (IsDeviceOf p w) (sym e) is))
 
   pub turn_taken : (n : ℕ) → IsAdmitted d.program t.turn → after ≡ after_turn d t.turn → n ≡ d.number + 1 → is_full (length d.entries) d.number ≡ false → turn_fault d t.turn ≡ None → StepsTo d after (command.Turn number t) (answer.Entered n)
   turn_taken n admitted e counts room none =
       for_first d after (λ m. command.Turn m t) number (answer.Entered n) Fine below (inl refl)
       (λ p w is. ap Entered (counts ∙ ap (λ k. k + 1) is.number) ∙ sym (ap (λ r. unwrap_or r (Entered (last_number w 0 + 1))) (why p w is)))
-      (λ p w is. subst (λ r. Represents p (option_map_or (λ refused. w) r (counted (settle w 0 (w.unsettled 0 ++ turn_entry t ∷ [])) 0)) after) (sym (why p w is)) (subst (Represents p (counted (settle w 0 (w.unsettled 0 ++ turn_entry t ∷ [])) 0)) (sym e) (turned p w d t is)))
+      (λ p w is. subst (λ r. IsDeviceOf p (option_map_or (λ refused. w) r (counted (settle w 0 (w.unsettled 0 ++ turn_entry t ∷ [])) 0)) after) (sym (why p w is)) (subst (IsDeviceOf p (counted (settle w 0 (w.unsettled 0 ++ turn_entry t ∷ [])) 0)) (sym e) (turned p w d t is)))
     where
-      why : (p : Program) (w : World) → Represents p w d → refusal p w (command.Turn 0 t) ≡ None
+      why : (p : Program) (w : World) → IsDeviceOf p w d → refusal p w (command.Turn 0 t) ≡ None
       why p w is = running_turn p w 0 t false None is.running (full_is p w d false is room) (fault_is p w d t None is admitted none)
 
   turn_full : after ≡ d → is_full (length d.entries) d.number ≡ true → StepsTo d after (command.Turn number t) (answer.No 29)
@@ -222,10 +222,10 @@ not_full false h = refl
 
 -- ---- one get
 
-set_is : (p : Program) (w : World) (d : DeviceState) (id : ℕ) (b : Bool) → Represents p w d → is_set_at d.program.decls.items id ≡ b → is_set_at p.decls.items id ≡ b
+set_is : (p : Program) (w : World) (d : DeviceState) (id : ℕ) (b : Bool) → IsDeviceOf p w d → is_set_at d.program.decls.items id ≡ b → is_set_at p.decls.items id ≡ b
 set_is p w d id b is h = ap (λ (q : Program). is_set_at q.decls.items id) (sym is.program) ∙ h
 
-elements_is : (p : Program) (w : World) (d : DeviceState) (id : ℕ) (pairs : Listed Pair) → Represents p w d → slice_get d.state.rep.cells.items (replicated_place d.program.decls.items id) ≡ Some (cell.Set pairs) → elements_of pairs.items ≡ value_elements (value_at (shape_of p) (device_state p w 0).taken (replicated_place p.decls.items id))
+elements_is : (p : Program) (w : World) (d : DeviceState) (id : ℕ) (pairs : Listed Pair) → IsDeviceOf p w d → slice_get d.state.rep.cells.items (replicated_place d.program.decls.items id) ≡ Some (cell.Set pairs) → elements_of pairs.items ≡ value_elements (value_at (shape_of p) (device_state p w 0).taken (replicated_place p.decls.items id))
 elements_is p w d id pairs is at =
     sym (ap cell_elements at)
     ∙ (λ i. cell_elements (slice_get (is.state.rep i).cells.items (replicated_place (is.program i).decls.items id)))
@@ -233,11 +233,11 @@ elements_is p w d id pairs is at =
 
 module _ (d : DeviceState) (number id : ℕ) (below : number < device_count d.program.decls.items) where
   -- a `get` of a running device shows this
-  shows_so : (a : Answer) → ((p : Program) (w : World) → Represents p w d → plain_answer a ≡ shown p (device_state p w 0) id) → StepsTo d d (command.Get number id) a
+  shows_so : (a : Answer) → ((p : Program) (w : World) → IsDeviceOf p w d → plain_answer a ≡ shown p (device_state p w 0) id) → StepsTo d d (command.Get number id) a
   shows_so a h =
       for_first d d (λ n. command.Get n id) number a Fine below (inl refl)
       (λ p w is. h p w is ∙ sym (ap (λ r. unwrap_or r (shown p (device_state p w 0) id)) (running_get p w 0 id is.running.up is.running.stop)))
-      (λ p w is. subst (λ r. Represents p (option_map_or (λ refused. w) r w) d) (sym (running_get p w 0 id is.running.up is.running.stop)) is)
+      (λ p w is. subst (λ r. IsDeviceOf p (option_map_or (λ refused. w) r w) d) (sym (running_get p w 0 id is.running.up is.running.stop)) is)
 
   pub got : (word : Word) → is_set_at d.program.decls.items id ≡ false → word ≡ signal_word d.program d.state.words.items (view_of d.state.rep) id → StepsTo d d (command.Get number id) (answer.Value word)
   got word other e = shows_so (answer.Value word) (λ p w is. rw (set_is p w d id false is other) (ap Value (e ∙ (λ i. signal_word (is.program i) (is.state.words i) (old_view p w d is i) id))))

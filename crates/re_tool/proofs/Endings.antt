@@ -223,7 +223,7 @@ module _ (a c e : Seen) (p : Program) (device : DeviceState) (line : List ℕ) (
         tells = (
           d.rest ++ last_line NoMemory,
           ap (λ x. session_text blank_world x os ++ last_line NoMemory) with_this
-              ∙ ap (λ x. x ++ last_line NoMemory) (texts_more p (blank_world p) q.lines line q.outcomes o q.same ∙ ap (λ x. texts p (blank_world p) q.lines q.outcomes ++ x) (sym (t.answers.says w q.represents) ∙ d.whole))
+              ∙ ap (λ x. x ++ last_line NoMemory) (texts_more p (blank_world p) q.lines line q.outcomes o q.same ∙ ap (λ x. texts p (blank_world p) q.lines q.outcomes ++ x) (sym (t.answers.says w q.stands) ∙ d.whole))
               ∙ simp append_assoc,
         );
         unanswered = line ∷ [];
@@ -247,7 +247,7 @@ module _ (a c e : Seen) (p : Program) (device : DeviceState) (line : List ℕ) (
       let lines = q.lines ++ line ∷ [] in
       let os = q.outcomes ++ o ∷ [] in
       let is : session_of job.Run (Accepted p) q.read false ≡ with_lines p lines = q.session ∙ ap (λ l. with_lines p (q.lines ++ line ∷ l)) last in
-      let text : t.text ≡ _ = t.answers.says w q.represents in
+      let text : t.text ≡ _ = t.answers.says w q.stands in
       let answer = answers_to q.read false p lines os Done is (ends_done q.read q.few) in
       record {
         read = q.read;

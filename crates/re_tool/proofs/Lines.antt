@@ -24,7 +24,7 @@ use Rattle.re_commands.specs.declared.fault.CommandFault.TheVariants as fault
 use Rattle.re_print.specs.AnswerTexts.{answer_text}
 use Rattle.re_unstored.specs.Device.{DeviceState}
 use Rattle.re_tool.specs.Answers.{fault_code, line_text, line_after}
-use Rattle.re_tool.specs.Device.{Represents, StepsTo}
+use Rattle.re_tool.specs.Device.{IsDeviceOf, StepsTo}
 use Rattle.re_tool.specs.Serving.{AnswersLine, said_of}
 use Rattle.re_tool.proofs.Commands.{memory_answer, memory_changes}
 
@@ -61,7 +61,7 @@ memory_answers p line d n = record {
   outcome = Memory;
   fares = inr refl;
   says = λ w h. memory_text p w (commanded p line) n;
-  world = λ w h. subst (λ v. Represents p v d) (sym (memory_after p w (commanded p line))) h;
+  world = λ w h. subst (λ v. IsDeviceOf p v d) (sym (memory_after p w (commanded p line))) h;
 }
 
 -- a line that the reader refused: with the line's fault, or for want of memory

@@ -17,7 +17,7 @@ use Rattle.re_tool.specs.Endings.{Ending, InputFault, status_at}
 use Rattle.re_tool.specs.Clipped.{Clipped}
 use Rattle.re_commands.specs.Commanding.{commanded}
 use Rattle.re_unstored.specs.Device.{DeviceState}
-use Rattle.re_tool.specs.Device.{Represents}
+use Rattle.re_tool.specs.Device.{IsDeviceOf}
 use Rattle.re_tool.specs.Lines.{split, ended, IsPlain, ArePlain, without_return}
 use Rattle.re_tool.specs.Part.{Part, divided, part_of, part_in, last_lines}
 use Rattle.re_tool.specs.Reads.{Reads, limit}
@@ -49,7 +49,7 @@ pub record SoFar (a b : Seen) (p : Program) (r : Reader) (device : DeviceState) 
   pub taken : r.taken ≡ length read
   pub few : r.taken ≤ limit
   pub does : Does a b read (texts p (blank_world p) (map without_return raws) outcomes) none
-  pub represents : Represents p (lines_after p (blank_world p) (map without_return raws) outcomes) device
+  pub stands : IsDeviceOf p (lines_after p (blank_world p) (map without_return raws) outcomes) device
   -- the moment behind the last answer, and what was read behind it
   pub mid : Seen
   pub acts : Acts p (blank_world p) (map without_return raws) outcomes a mid
@@ -70,7 +70,7 @@ pub record Ready (a b : Seen) (p : Program) (device : DeviceState) (line : List 
   -- the line is a whole one, or the input is at its end
   pub complete : (length lines + 1 ≤ length (part_lines (part_of read true))) ⊎ IsAtEnd b
   pub does : Does a b read (texts p (blank_world p) lines outcomes) none
-  pub represents : Represents p (lines_after p (blank_world p) lines outcomes) device
+  pub stands : IsDeviceOf p (lines_after p (blank_world p) lines outcomes) device
   pub mid : Seen
   pub acts : Acts p (blank_world p) lines outcomes a mid
   pub ahead : List ℕ
@@ -113,7 +113,7 @@ starts_so_far a b p r device s = record {
   taken = s.taken;
   few = s.few;
   does = s.does;
-  represents = s.represents;
+  stands = s.stands;
   mid = a;
   acts = refl;
   ahead = s.read;
@@ -157,7 +157,7 @@ answers_as p line line' before after text e q = record {
   outcome = q.outcome;
   fares = q.fares;
   says = λ w h. q.says w h ∙ ap (λ l. line_text p w l q.outcome) e;
-  world = λ w h. subst (λ l. Represents p (line_after p w l q.outcome) after) e (q.world w h);
+  world = λ w h. subst (λ l. IsDeviceOf p (line_after p w l q.outcome) after) e (q.world w h);
 }
 
 pub turns_as : (p : Program) (line line' : List ℕ) (before after : DeviceState) (a b : Seen) → commanded p line ≡ commanded p line' → Turns p line before after a b → Turns p line' before after a b
@@ -215,7 +215,7 @@ module _ (a b c : Seen) (p : Program) (r r' : Reader) (device : DeviceState) (li
     few = omega (arith, size_more d);
     complete = inl (rw (part_line d few true) (longer (map without_return s.raws) (without_return d.line) (map without_return (split r'.chunk).0 ++ [])));
     does = does_more a b c s.read d.bytes _ s.does d.does;
-    represents = s.represents;
+    stands = s.stands;
     mid = s.mid;
     acts = s.acts;
     ahead = s.ahead ++ d.bytes;
@@ -245,7 +245,7 @@ module _ (a b c : Seen) (p : Program) (r r' : Reader) (device : DeviceState) (li
       few = omega (arith, size_more d);
       complete = inr end;
       does = does_more a b c s.read d.bytes _ s.does d.does;
-      represents = s.represents;
+      stands = s.stands;
       mid = s.mid;
       acts = s.acts;
       ahead = s.ahead ++ d.bytes;
@@ -261,7 +261,7 @@ module _ (a b c : Seen) (p : Program) (r r' : Reader) (device : DeviceState) (li
       let line = without_return d.line in
       let w = lines_after p (blank_world p) lines s.outcomes in
       let lines_are : map without_return (s.raws ++ d.line ∷ []) ≡ lines ++ line ∷ [] = raws_more s.raws d.line [] in
-      let text = t.answers.says w s.represents in
+      let text = t.answers.says w s.stands in
       record {
         front = s.front;
         head = s.head;
@@ -278,7 +278,7 @@ module _ (a b c : Seen) (p : Program) (r r' : Reader) (device : DeviceState) (li
         few = few;
         does = says_more a c e (s.read ++ d.bytes) _ t.text _ (does_more a b c s.read d.bytes _ s.does d.does) t.does
             (ap (λ l. texts p (blank_world p) l (s.outcomes ++ t.answers.outcome ∷ [])) lines_are ∙ texts_more p (blank_world p) lines line s.outcomes t.answers.outcome s.same ∙ ap (λ x. texts p (blank_world p) lines s.outcomes ++ x) (sym text));
-        represents = subst (λ v. Represents p v device') (sym (ap (λ l. lines_after p (blank_world p) l (s.outcomes ++ t.answers.outcome ∷ [])) lines_are ∙ after-append p (blank_world p) lines (line ∷ []) s.outcomes (t.answers.outcome ∷ []) s.same)) (t.answers.world w s.represents);
+        stands = subst (λ v. IsDeviceOf p v device') (sym (ap (λ l. lines_after p (blank_world p) l (s.outcomes ++ t.answers.outcome ∷ [])) lines_are ∙ after-append p (blank_world p) lines (line ∷ []) s.outcomes (t.answers.outcome ∷ []) s.same)) (t.answers.world w s.stands);
         mid = e;
         acts = subst (λ l. Acts p (blank_world p) l (s.outcomes ++ t.answers.outcome ∷ []) a e) (sym lines_are)
             (acts_more p (blank_world p) lines line s.outcomes t.answers.outcome a s.mid e s.same s.acts (act_said s.mid c e (s.ahead ++ d.bytes) t.text _ (does_more s.mid b c s.ahead d.bytes [] s.noise d.does) t.does text));

@@ -20,7 +20,7 @@ use Rattle.re_tool.specs.Answers.{IsFineOrMemory, Session, session_of, session_i
 use Rattle.re_tool.specs.Endings.{Ending, Done, RefusedProgram, InputFault, NoMemory, InputTooLong, status_at, last_line}
 use Rattle.re_tool.specs.Clipped.{Clipped}
 use Rattle.re_unstored.specs.Device.{DeviceState}
-use Rattle.re_tool.specs.Device.{Represents}
+use Rattle.re_tool.specs.Device.{IsDeviceOf}
 use Rattle.re_tool.specs.Lines.{split, ended, without_return}
 use Rattle.re_tool.specs.Part.{Part, divided, part_of, part_in}
 use Rattle.re_tool.specs.PartReading.{Divides, ReadsAll, PartFails, PartTooLong, PartStops, PartIs}
@@ -266,7 +266,7 @@ module _ (a b : Seen) (r : Reader) (text : Clipped) (d : Divides r text a b) whe
   near_divided_refused j why h =
       refused j a b d.read why (record { text = flat_map ended d.front; lines = map without_return (split r.chunk).0 ++ (split r.chunk).1 ∷ [] }) divided_short is_divided_part (kept_verdict j (Rejected why) text (flat_map ended d.front) d.keeps h) d.does (inl has_separator)
 
-  pub divided_starts : (p : Program) (device : DeviceState) → Decides job.Run text.items (Accepted p) → Represents p (blank_world p) device → Starts a b p r device
+  pub divided_starts : (p : Program) (device : DeviceState) → Decides job.Run text.items (Accepted p) → IsDeviceOf p (blank_world p) device → Starts a b p r device
   divided_starts p device is rep = record {
     read = d.read;
     front = d.front;
@@ -278,7 +278,7 @@ module _ (a b : Seen) (r : Reader) (text : Clipped) (d : Divides r text a b) whe
     taken = d.taken;
     few = d.few;
     does = d.does;
-    represents = rep;
+    stands = rep;
   }
 
 module _ (a b : Seen) (r : Reader) (text : Clipped) (d : ReadsAll r text a b) where

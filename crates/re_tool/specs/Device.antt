@@ -22,7 +22,7 @@ pub record IsRunning (w : World) (d : ℕ) : Type 0 where
 
 -- the device is that of the world: it is device 0, the only one of its program, its state stands for the world's, and it took as many entries;
 -- what it has taken in is of the world's log
-pub record Represents (p : Program) (w : World) (device : DeviceState) : Type 0 where
+pub record IsDeviceOf (p : Program) (w : World) (device : DeviceState) : Type 0 where
   pub program : device.program ≡ p
   pub only : is_built p ≡ true
   pub place : device.device ≡ 0
@@ -44,5 +44,5 @@ turn_fault_code fault.DotsSpent = 32
 pub record StepsTo (before after : DeviceState) (c : Command) (a : Answer) : Type 0 where
   pub outcome : Outcome
   pub fares : IsFineOrMemory outcome
-  pub answers : (p : Program) (w : World) → Represents p w before → plain_answer a ≡ command_answer p w c outcome
-  pub world : (p : Program) (w : World) → Represents p w before → Represents p (command_after p w c outcome) after
+  pub answers : (p : Program) (w : World) → IsDeviceOf p w before → plain_answer a ≡ command_answer p w c outcome
+  pub world : (p : Program) (w : World) → IsDeviceOf p w before → IsDeviceOf p (command_after p w c outcome) after

@@ -13,7 +13,7 @@ use Rattle.re_tool.specs.declared.running.Ended.TheVariants as ended_by
 use Rattle.re_tool.specs.Answers.{IsFineOrMemory, line_text, line_after}
 use Rattle.re_commands.specs.Commanding.{commanded}
 use Rattle.re_unstored.specs.Device.{DeviceState}
-use Rattle.re_tool.specs.Device.{Represents}
+use Rattle.re_tool.specs.Device.{IsDeviceOf}
 use Rattle.re_tool.specs.Lines.{ended, ArePlain}
 use Rattle.re_tool.specs.Part.{divided}
 use Rattle.re_tool.specs.Reads.{limit}
@@ -29,8 +29,8 @@ said_of p (Some answer) = answer_text p (plain_answer answer) ++ 10 ∷ []
 pub record AnswersLine (p : Program) (line : List ℕ) (before after : DeviceState) (text : List ℕ) : Type 0 where
   pub outcome : Outcome
   pub fares : IsFineOrMemory outcome
-  pub says : (w : World) → Represents p w before → text ≡ line_text p w (commanded p line) outcome
-  pub world : (w : World) → Represents p w before → Represents p (line_after p w (commanded p line) outcome) after
+  pub says : (w : World) → IsDeviceOf p w before → text ≡ line_text p w (commanded p line) outcome
+  pub world : (w : World) → IsDeviceOf p w before → IsDeviceOf p (line_after p w (commanded p line) outcome) after
 
 -- The line is done, and its answer said whole.
 pub record Turns (p : Program) (line : List ℕ) (before after : DeviceState) (old new : Seen) : Type 0 where
@@ -67,4 +67,4 @@ pub record Starts (a b : Seen) (p : Program) (r : Reader) (device : DeviceState)
   pub taken : r.taken ≡ length read
   pub few : r.taken ≤ limit
   pub does : Does a b read [] none
-  pub represents : Represents p (blank_world p) device
+  pub stands : IsDeviceOf p (blank_world p) device

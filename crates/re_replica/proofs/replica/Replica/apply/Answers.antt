@@ -8,7 +8,7 @@ use Rattle.re_terms.specs.UpdateStates.{after_operation}
 use Rattle.re_replica.specs.Replica.{ReplicaState}
 use Rattle.re_replica.proofs.Applied.{Answers, answers_of, state_of}
 use Rattle.re_terms.proofs.FittingStates.{operation_fits}
-use Rattle.re_replica.proofs.Represented.{represents_after}
+use Rattle.re_replica.proofs.ReplicaOf.{is_replica_after}
 use Rattle.re_replica.proofs.Shaped.{ordered_at}
 use Rattle.re_replica.proofs.replica.Replica.apply.Goals as goal
 
@@ -96,6 +96,6 @@ returns-clause-causal c = λ log v before.
     let few = c.self.invariant.limits.devices in
     let below = c.self.invariant.numbered in
     let small : self.device < 16 = subst (λ (w : ReplicaState). w.device < 16) c.self.view_is (omega arith) in
-    represents_after log v self op small before _
+    is_replica_after log v self op small before _
     (ap (λ s. record { shape = d.shape; device = d.device; state = s }) is
     ∙ ap (λ (w : ReplicaState). record { shape = w.shape; device = w.device; state = after_operation w.shape w.device op w.state }) c.self.view_is)

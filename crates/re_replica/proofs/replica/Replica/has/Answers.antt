@@ -1,7 +1,7 @@
 use Rattle.std.proofs.Common.{rules, ◌≡◌, Some, ap, ◌∙◌, sym}
 use Rattle.std.specs.Prelude.{slice_get}
 use Rattle.re_terms.specs.declared.replicated.RCell.TheVariants.{Set}
-use Rattle.re_replica.proofs.Represented.{has_shown}
+use Rattle.re_replica.proofs.ReplicaOf.{has_shown}
 use Rattle.re_replica.proofs.Shaped.{ordered_at}
 use Rattle.re_replica.proofs.replica.Replica.has.Goals as goal
 

@@ -5,7 +5,7 @@ use Rattle.re_terms.specs.UpdateStates.{join_states}
 use Rattle.re_terms.specs.declared.replicated.RState.{RState}
 use Rattle.re_replica.specs.Replica.{ReplicaState}
 use Rattle.re_terms.proofs.FittingStates.{join_fits}
-use Rattle.re_replica.proofs.Represented.{represents_joined}
+use Rattle.re_replica.proofs.ReplicaOf.{is_replica_joined}
 use Rattle.re_replica.proofs.Shaped.{can_merge_at}
 use Rattle.re_replica.proofs.replica.Replica.merge.Goals as goal
 
@@ -42,6 +42,6 @@ returns-clause-causal c = λ log v w before closed places given.
     let d = c.self.inside in
     let now : RState = record { vector = c.join_vectors-self-inside.result; cells = c.in-Ok.merged.cells } in
     let is : now ≡ join_states d.state c.args.other.now = λ i. record { vector = record { counts = c.join_vectors-self-inside.ensures i }; cells = c.in-Ok.ensures.joined i } in
-    represents_joined log v w c.args.self.now c.args.other.now before closed places given _
+    is_replica_joined log v w c.args.self.now c.args.other.now before closed places given _
     (ap (λ s. record { shape = d.shape; device = d.device; state = s }) is
     ∙ ap (λ (x : ReplicaState). record { shape = x.shape; device = x.device; state = join_states x.state c.args.other.now }) c.self.view_is)

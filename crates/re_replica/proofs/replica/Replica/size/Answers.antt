@@ -4,7 +4,7 @@ use Rattle.re_terms.specs.Views.{cell_size}
 use Rattle.re_terms.specs.declared.replicated.RCell.TheVariants.{Set}
 use Rattle.re_replica.specs.Replica.{ReplicaState}
 use Rattle.re_replica.proofs.Acts.{pairs_within}
-use Rattle.re_replica.proofs.Represented.{size_shown}
+use Rattle.re_replica.proofs.ReplicaOf.{size_shown}
 use Rattle.re_replica.proofs.Shaped.{ordered_at}
 use Rattle.re_replica.proofs.replica.Replica.size.Goals as goal
 

@@ -1,5 +1,5 @@
 use Rattle.std.proofs.Common.{◌∙◌, rules}
-use Rattle.re_replica.proofs.Represented.{word_shown}
+use Rattle.re_replica.proofs.ReplicaOf.{word_shown}
 use Rattle.re_replica.proofs.replica.Replica.word.Goals as goal
 
 -- src/replica.rt:132:5

@@ -18,9 +18,9 @@ use Rattle.re_terms.specs.declared.word.Word.{Word}
 use Rattle.re_terms.specs.declared.replicated.Dot.{Dot}
 use Rattle.re_terms.specs.declared.replicated.RepOp.{RepOp}
 use Rattle.re_terms.specs.declared.replicated.RState.{RState}
-use Rattle.re_replica.specs.Replica.{ReplicaState, Represents}
+use Rattle.re_replica.specs.Replica.{ReplicaState, IsReplicaOf}
 
-module _ (log : List Update) (v : List ℕ) (r : ReplicaState) (op : RepOp) (small : r.device < 16) (before : Represents log v r) where
+module _ (log : List Update) (v : List ℕ) (r : ReplicaState) (op : RepOp) (small : r.device < 16) (before : IsReplicaOf log v r) where
   abbrev next : Update
   next = next_update log v r.device op
 
@@ -31,7 +31,7 @@ module _ (log : List Update) (v : List ℕ) (r : ReplicaState) (op : RepOp) (sma
       ∙ ap (λ n. n + 1) before.own
       ∙ sym (count-push r.device log next ∙ ap (λ b. count_of r.device log + cond b 1 0) (same_number r.device r.device refl))
 
-  after : Represents (log ++ next ∷ []) (with_dot v next.dot) (record r { state = after_operation r.shape r.device op r.state })
+  after : IsReplicaOf (log ++ next ∷ []) (with_dot v next.dot) (record r { state = after_operation r.shape r.device op r.state })
   after =
       let is_next = next_update_is_next log v r.device op before.closed small before.places before.own in
       record {
@@ -42,8 +42,8 @@ module _ (log : List Update) (v : List ℕ) (r : ReplicaState) (op : RepOp) (sma
         state = ap (after_operation r.shape r.device op) before.state ∙ sym (state_push log next before.causal is_next r.shape);
       }
 
-  pub represents_after : (now : ReplicaState) → now ≡ record r { state = after_operation r.shape r.device op r.state } → Represents (log ++ next ∷ []) (with_dot v next.dot) now
-  represents_after now is = subst (Represents (log ++ next ∷ []) (with_dot v next.dot)) (sym is) after
+  pub is_replica_after : (now : ReplicaState) → now ≡ record r { state = after_operation r.shape r.device op r.state } → IsReplicaOf (log ++ next ∷ []) (with_dot v next.dot) now
+  is_replica_after now is = subst (IsReplicaOf (log ++ next ∷ []) (with_dot v next.dot)) (sym is) after
 
 -- ---- a merge
 
@@ -56,8 +56,8 @@ own_within log w device causal closed =
       | inr none ↦ omega arith
     ]
 
-module _ (log : List Update) (v w : List ℕ) (r : ReplicaState) (other : RState) (before : Represents log v r) (closed : IsCausallyClosed log w) (places : length w ≡ 16) (given : other ≡ state_of_updates r.shape (covered log w)) where
-  joined : Represents log (join_vectors v w) (record r { state = join_states r.state other })
+module _ (log : List Update) (v w : List ℕ) (r : ReplicaState) (other : RState) (before : IsReplicaOf log v r) (closed : IsCausallyClosed log w) (places : length w ≡ 16) (given : other ≡ state_of_updates r.shape (covered log w)) where
+  joined : IsReplicaOf log (join_vectors v w) (record r { state = join_states r.state other })
   joined =
       let own = own_within log w r.device before.causal closed in
       let was = before.own in
@@ -69,8 +69,8 @@ module _ (log : List Update) (v w : List ℕ) (r : ReplicaState) (other : RState
         state = (λ i. join_states (before.state i) (given i)) ∙ state_join r.shape log v w before.causal before.closed closed;
       }
 
-  pub represents_joined : (now : ReplicaState) → now ≡ record r { state = join_states r.state other } → Represents log (join_vectors v w) now
-  represents_joined now is = subst (Represents log (join_vectors v w)) (sym is) joined
+  pub is_replica_joined : (now : ReplicaState) → now ≡ record r { state = join_states r.state other } → IsReplicaOf log (join_vectors v w) now
+  is_replica_joined now is = subst (IsReplicaOf log (join_vectors v w)) (sym is) joined
 
 -- ---- what a state of updates shows is what the updates give
 
