@@ -4,14 +4,13 @@ use Rattle.std.specs.Prelude.{ℕ, ◌-◌, ◌^◌, ◌||◌, Bool, true, false
 use Rattle.std.specs.Option.{option_map_or}
 use Rattle.re_terms.specs.declared.word.Word.{Word}
 use Rattle.re_terms.specs.declared.program.Program.{Program}
-use Rattle.re_terms.specs.declared.entry.Admitted.{Admitted}
 use Rattle.re_terms.specs.declared.command.Answer.{Answer}
 use Rattle.re_terms.specs.declared.command.Answer.TheVariants as answer
 use Rattle.re_terms.specs.declared.program.Body.{Body}
 use Rattle.re_terms.specs.declared.program.Body.TheVariants as body
 use Rattle.re_terms.specs.declared.program.Decl.{Decl}
 use Rattle.re_terms.specs.Limits.{OperationFault, DotsSpent, SetFull, CounterFull}
-use Rattle.re_terms.specs.Runs.{PlainState, PlainEntry, Turn, plain_view}
+use Rattle.re_terms.specs.Runs.{PlainState, plain_view}
 use Rattle.re_terms.specs.Shapes.{shape_of}
 use Rattle.re_terms.specs.SignalWords.{replicated_place, signal_word}
 use Rattle.re_terms.specs.Values.{value_at, value_elements}
@@ -58,10 +57,6 @@ plain_answer (answer.BadFile file place) = BadFile file place
 -- a device that took so many entries since it was opened, the last of which has this number, takes no more
 abbrev pub is_full : ℕ → ℕ → Bool
 is_full count number = nat_le 4096 count || nat_le (2 ^ 48 - 1) number
-
--- the turn as a plain entry
-abbrev pub turn_entry : Admitted → PlainEntry
-turn_entry t = Turn t.turn.sets.items t.turn.fires.items t.turn.ops.items
 
 -- the code of the limit that an operation would pass
 abbrev pub limit_code : OperationFault → ℕ
