@@ -8,3 +8,4 @@ pub mod Standing
 pub mod Opening
 pub mod Counted
 pub mod Committing
+pub mod ReadStores

@@ -2,7 +2,8 @@
 -- Read against: beside a store of generation 1 in file 0 a commit behind a snapshot of generation 2 leaves at each moment the old store
 -- with all its records, the new snapshot in file 1 with no record, or with the one; one with no snapshot leaves the old records, or one
 -- more. Into a blank file of no bytes it takes ten calls, six for the snapshot and four for the record.
-use Rattle.std.specs.Prelude.{◌≡◌, ◌⊎◌, ℕ, ◌+◌, ◌<◌, ◌==◌, List, [], ◌∷◌, ◌++◌, length, Option, Some, None}
+-- Where the sixth of these fails the record's gate doesn't read as open, whatever stands there; where the tenth fails it does.
+use Rattle.std.specs.Prelude.{◌≡◌, ◌⊎◌, ℕ, ◌+◌, ◌-◌, ◌<◌, ◌==◌, ◌&&◌, Bool, true, false, nat_lt, List, [], ◌∷◌, ◌++◌, length, slice_index, Option, Some, None}
 use Rattle.re_outside.specs.Frame.{StoreFrame, Store, HasStoreFrame, IsRecordLength, generation}
 use Rattle.re_outside.specs.Trace.{Past, content_of}
 use Rattle.re_outside.specs.declared.step.Step.{Step}
@@ -70,6 +71,36 @@ IsNewAlone file (Some new) frame = frame ≡ Store (other_file file) new []
 -- what a stop within the commit may leave: the store before it, the new snapshot alone, or the store after it
 abbrev pub IsLeftBy : ℕ → List ℕ → List (List ℕ) → Option (List ℕ) → List ℕ → StoreFrame → Type 0
 IsLeftBy file snapshot bodies new body frame = (frame ≡ Store file snapshot bodies) ⊎ (IsNewAlone file new frame ⊎ (frame ≡ store_after file snapshot bodies new body))
+
+-- ---- what reads give
+
+-- how many steps were added since; a commit's call adds one, and where it fails and did nothing it may add none
+abbrev pub steps_since : Past → Past → ℕ
+steps_since old now = length now.trace - length old.trace
+
+-- how many calls lay the new snapshot and open its gate, where there is one
+abbrev pub snapshot_calls : Journal → Option (List ℕ) → ℕ
+snapshot_calls journal None = 0
+snapshot_calls journal (Some next) = laying_calls journal.other_blank journal.other_length + 2
+
+-- the file into which the record goes
+abbrev pub record_file : Journal → Option (List ℕ) → ℕ
+record_file journal None = journal.file
+record_file journal (Some next) = other_file journal.file
+
+-- the place of the gate that opens the record
+abbrev pub record_gate : Journal → Option (List ℕ) → ℕ
+record_gate journal None = journal.gate
+record_gate journal (Some next) = length next
+
+-- a call behind those that lay the new snapshot added its step, and the record's gate reads as open
+abbrev pub reads_open : Journal → Option (List ℕ) → Past → Past → Bool
+reads_open journal next old now = nat_lt (snapshot_calls journal next) (steps_since old now) && (slice_index (content_of now (record_file journal next)) (record_gate journal next) == 1)
+
+-- what reads give: the store after the commit where the record's gate reads as open, else the store before it or the new snapshot alone
+abbrev pub IsReadBy : ℕ → List ℕ → List (List ℕ) → Option (List ℕ) → List ℕ → Bool → StoreFrame → Type 0
+IsReadBy file snapshot bodies new body true frame = frame ≡ store_after file snapshot bodies new body
+IsReadBy file snapshot bodies new body false frame = (frame ≡ Store file snapshot bodies) ⊎ IsNewAlone file new frame
 
 -- the two files read as something that has P
 abbrev pub ReadAs : (StoreFrame → Type 0) → Past → Type 0

@@ -1,12 +1,12 @@
 //! The commit of a record, behind a new snapshot where one is due.
-ghost use Rattle.std.specs.Prelude.{◌≡◌, List, ℕ, Option, Some, Err, IfSome, OnOk};
+ghost use Rattle.std.specs.Prelude.{◌≡◌, true, List, ℕ, Option, Some, Err, IfSome, OnOk};
 ghost use Rattle.std.specs.Option.{option_copied};
 ghost use Rattle.re_outside.specs.Frame.{Store};
 ghost use Rattle.re_outside.specs.Moment.{Throughout};
 ghost use Rattle.re_outside.specs.Trace.{with_steps};
 ghost use Rattle.re_journal.specs.Commits.{StopsJournal, IsStopOf, HasCause};
 ghost use Rattle.re_journal.specs.declared.fault.JournalFault.TheVariants.{Disk as DiskFault, Stopped};
-ghost use Rattle.re_compact.specs.Committing.{MayCommit, committing_steps, committing_calls, HasCommitted, store_after, IsLeftBy, ReadAs};
+ghost use Rattle.re_compact.specs.Committing.{MayCommit, committing_steps, committing_calls, HasCommitted, store_after, IsLeftBy, ReadAs, IsReadBy, reads_open};
 ghost use Rattle.re_compact.specs.Pair.{StandsIn, Holds};
 
 use crate::laying::{prepare_other, publish};
@@ -33,9 +33,15 @@ pub fn commit_record<D: Disk>(
     ensures failed { D.tells → result ≡ Err DiskFault → StopsJournal (committing_steps (D.past disk.old).device journal.old (option_copied next.entry) framed.now) journal.old.calls journal.new.stopped (D.past disk.old) (D.past disk.new) }
     ensures cause { HasCause journal.old.stopped (D.faults disk.old) (D.faults disk.new) result }
 
-    // A stop at any moment leaves the store before it, the new snapshot alone, or the store after it; so do reads, whatever failed.
+    // A stop at any moment leaves the store before it, the new snapshot alone, or the store after it.
     ensures each_moment { (snapshot : List ℕ) (bodies : List (List ℕ)) (new : Option (List ℕ)) (body : List ℕ) → D.tells → StandsIn journal.old (Store journal.old.file snapshot bodies) (D.past disk.old) → MayCommit snapshot bodies new body (option_copied next.entry) framed.now → Throughout (D.past disk.old) (D.past disk.new) (Holds (IsLeftBy journal.old.file snapshot bodies new body) (D.past disk.old)) }
-    ensures reads { (snapshot : List ℕ) (bodies : List (List ℕ)) (new : Option (List ℕ)) (body : List ℕ) → D.tells → StandsIn journal.old (Store journal.old.file snapshot bodies) (D.past disk.old) → MayCommit snapshot bodies new body (option_copied next.entry) framed.now → ReadAs (IsLeftBy journal.old.file snapshot bodies new body) (D.past disk.new) }
+
+    // Whatever failed, the files read as the store after it where the record's gate reads as open, and else as the store before it or as
+    // the new snapshot alone. The gate is open after Ok; where a call of the new snapshot failed it counts as closed.
+    ensures reads { (snapshot : List ℕ) (bodies : List (List ℕ)) (new : Option (List ℕ)) (body : List ℕ) → D.tells → StandsIn journal.old (Store journal.old.file snapshot bodies) (D.past disk.old) → MayCommit snapshot bodies new body (option_copied next.entry) framed.now → ReadAs (IsReadBy journal.old.file snapshot bodies new body (reads_open journal.old (option_copied next.entry) (D.past disk.old) (D.past disk.new))) (D.past disk.new) }
+    ensures opened { (snapshot : List ℕ) (bodies : List (List ℕ)) (new : Option (List ℕ)) (body : List ℕ) → D.tells → StandsIn journal.old (Store journal.old.file snapshot bodies) (D.past disk.old) → MayCommit snapshot bodies new body (option_copied next.entry) framed.now → OnOk result (reads_open journal.old (option_copied next.entry) (D.past disk.old) (D.past disk.new) ≡ true) }
+
+    // After Ok the journal stands on the store after it.
     ensures stands { (snapshot : List ℕ) (bodies : List (List ℕ)) (new : Option (List ℕ)) (body : List ℕ) → D.tells → OnOk result (StandsIn journal.old (Store journal.old.file snapshot bodies) (D.past disk.old) → MayCommit snapshot bodies new body (option_copied next.entry) framed.now → StandsIn journal.new (store_after journal.old.file snapshot bodies new body) (D.past disk.new)) }
 
     ensures journal { OnOk result (HasCommitted (option_copied next.entry) framed.now journal.old journal.new) }
@@ -62,6 +68,8 @@ fn commit_behind<D: Disk>(
     ensures failed { D.tells → result ≡ Err DiskFault → StopsJournal (committing_steps (D.past disk.old).device journal.old (Some laid.now) framed.now) journal.old.calls journal.new.stopped (D.past disk.old) (D.past disk.new) }
     ensures cause { HasCause journal.old.stopped (D.faults disk.old) (D.faults disk.new) result }
     ensures each_moment { (snapshot : List ℕ) (bodies : List (List ℕ)) (new : List ℕ) (body : List ℕ) → D.tells → StandsIn journal.old (Store journal.old.file snapshot bodies) (D.past disk.old) → MayCommit snapshot bodies (Some new) body (Some laid.now) framed.now → Throughout (D.past disk.old) (D.past disk.new) (Holds (IsLeftBy journal.old.file snapshot bodies (Some new) body) (D.past disk.old)) }
+    ensures reads { (snapshot : List ℕ) (bodies : List (List ℕ)) (new : List ℕ) (body : List ℕ) → D.tells → StandsIn journal.old (Store journal.old.file snapshot bodies) (D.past disk.old) → MayCommit snapshot bodies (Some new) body (Some laid.now) framed.now → ReadAs (IsReadBy journal.old.file snapshot bodies (Some new) body (reads_open journal.old (Some laid.now) (D.past disk.old) (D.past disk.new))) (D.past disk.new) }
+    ensures opened { (snapshot : List ℕ) (bodies : List (List ℕ)) (new : List ℕ) (body : List ℕ) → D.tells → StandsIn journal.old (Store journal.old.file snapshot bodies) (D.past disk.old) → MayCommit snapshot bodies (Some new) body (Some laid.now) framed.now → OnOk result (reads_open journal.old (Some laid.now) (D.past disk.old) (D.past disk.new) ≡ true) }
     ensures stands { (snapshot : List ℕ) (bodies : List (List ℕ)) (new : List ℕ) (body : List ℕ) → D.tells → OnOk result (StandsIn journal.old (Store journal.old.file snapshot bodies) (D.past disk.old) → MayCommit snapshot bodies (Some new) body (Some laid.now) framed.now → StandsIn journal.new (store_after journal.old.file snapshot bodies (Some new) body) (D.past disk.new)) }
     ensures journal { OnOk result (HasCommitted (Some laid.now) framed.now journal.old journal.new) }
     ensures stopped_at { result ≡ Err DiskFault → IsStopOf (committing_calls journal.old (Some laid.now)) journal.old.calls journal.new.stopped }

@@ -1,8 +1,11 @@
 pub mod DueSnapshots
 pub mod Entered
+pub mod Fared
 pub mod LimitFaults
 pub mod Memories
+pub mod Opening
 pub mod Placed
+pub mod PlainEntries
 pub mod Puts
 pub mod Reading
 pub mod Records
@@ -10,3 +13,6 @@ pub mod Results
 pub mod SetPlaces
 pub mod Settling
 pub mod Shown
+pub mod WorldDevices
+pub mod WorldRefusals
+pub mod WorldSteps

@@ -3,9 +3,10 @@ use Rattle.std.proofs.Common.{◌≡◌, ◌⊎◌, inl, inr, ◌<◌, ◌≤◌
 use Rattle.std.specs.Prelude.{nat_lt, if◌then◌else◌, option_map}
 use Rattle.std.proofs.lemmas.Bool.{leb-false}
 use Rattle.re_compact.proofs.Committing.{may_open}
+use Rattle.re_compact.proofs.ReadStores.{few_shut}
 use Rattle.re_compact.proofs.Standing.{at_rest}
 use Rattle.re_outside.proofs.Moments.{no_step}
-use Rattle.re_compact.specs.Committing.{IsLeftBy, MayCommit, ReadAs, store_after}
+use Rattle.re_compact.specs.Committing.{IsLeftBy, IsReadBy, MayCommit, ReadAs, reads_open, store_after}
 use Rattle.re_compact.specs.Pair.{Holds, StandsIn}
 use Rattle.re_journal.specs.Journals.{frame_of, other_file}
 use Rattle.re_journal.specs.declared.journal.Journal.{Journal}
@@ -22,16 +23,16 @@ use Rattle.re_record.specs.Stores.{AreRecordsOf, ComesTo, OpensTo, laid}
 use Rattle.re_terms.specs.Shapes.{shape_of}
 use Rattle.re_terms.specs.declared.entry.Logged.{Logged}
 use Rattle.re_terms.specs.declared.program.Program.{Program}
-use Rattle.re_device.proofs.DueSnapshots.{due_below, snapshot_comes, succeeds}
+use Rattle.re_device.proofs.DueSnapshots.{due_below, due_none, due_some, snapshot_comes, succeeds}
 use Rattle.re_device.proofs.Memories.{current_more, number_after}
 use Rattle.re_device.proofs.Records.{accepted_same, after_all_same, record_bytes_same, settles_long, settles_of, unreserved}
-use Rattle.re_device.specs.Committing.{due_snapshot, framed_record, is_due, next_generation, next_snapshot}
+use Rattle.re_device.specs.Committing.{due_snapshot, framed_record, is_due, next_generation, next_snapshot, record_reads_open}
 use Rattle.re_device.specs.Device.{DeviceMemory, DeviceState, all_settled, current, with_entry}
 use Rattle.re_device.specs.Keeping.{IsKept, memory_of, seen_of, settled_of}
 use Rattle.re_device.specs.Ready.{IsReady, MaySettle}
 use Rattle.re_device.specs.declared.store.Ready.{Ready}
 use Rattle.re_outside.specs.Listed.{Listed}
-use Rattle.re_device.specs.Standing.{LeavesEither, LeavesOnly, OpensToEither, ReadsEither, StandsAt, StandsSettled}
+use Rattle.re_device.specs.Standing.{LeavesEither, LeavesOnly, OpensToEither, ReadsBy, StandsAt, StandsSettled}
 use Rattle.re_device.specs.declared.device.Device.TheInside.{Inside}
 
 -- a store opens to what its snapshot and records come to
@@ -115,15 +116,33 @@ module _ (d : Inside) (inv : IsKept d) (entries : List Logged) (may : MaySettle 
 
   -- ---- what two files open to
 
-  pub left_opens : (a b : List ℕ) (frame : StoreFrame) → HasStoreFrame a b frame → IsLeftBy d.journal.file st.snapshot st.bodies None (record_bytes (shape_of d.program).devices entries) frame → OpensToEither (memory_of d) (settled_of d) (after_all d.program d.device entries (settled_of d)) a b
-  left_opens a b frame has (inl same) = inl (opens_store d.program d.device d.journal.file a b st.snapshot st.bodies (settled_of d) (subst (HasStoreFrame a b) same has) st.comes)
-  left_opens a b frame has (inr (inl none)) = absurd none
-  left_opens a b frame has (inr (inr same)) = inr (opens_store d.program d.device d.journal.file a b st.snapshot (st.bodies ++ record_bytes (shape_of d.program).devices entries ∷ []) (after_all d.program d.device entries (settled_of d)) (subst (HasStoreFrame a b) same has) comes_more)
+  abbrev body : List ℕ
+  body = record_bytes (shape_of d.program).devices entries
 
-  pub left_opens_behind : is_due (seen_of d) ≡ true → (a b : List ℕ) (frame : StoreFrame) → HasStoreFrame a b frame → IsLeftBy d.journal.file st.snapshot st.bodies (Some (next_snapshot (seen_of d))) (record_bytes (shape_of d.program).devices entries) frame → OpensToEither (memory_of d) (settled_of d) (after_all d.program d.device entries (settled_of d)) a b
-  left_opens_behind due a b frame has (inl same) = inl (opens_store d.program d.device d.journal.file a b st.snapshot st.bodies (settled_of d) (subst (HasStoreFrame a b) same has) st.comes)
-  left_opens_behind due a b frame has (inr (inl alone)) = inl (opens_store d.program d.device (other_file d.journal.file) a b (next_snapshot (seen_of d)) [] (settled_of d) (subst (HasStoreFrame a b) alone has) (comes_new due))
-  left_opens_behind due a b frame has (inr (inr same)) = inr (opens_store d.program d.device (other_file d.journal.file) a b (next_snapshot (seen_of d)) (record_bytes (shape_of d.program).devices entries ∷ []) (after_all d.program d.device entries (settled_of d)) (subst (HasStoreFrame a b) same has) (comes_new_more due))
+  abbrev after : Opened
+  after = after_all d.program d.device entries (settled_of d)
+
+  opens_old : (a b : List ℕ) (frame : StoreFrame) → HasStoreFrame a b frame → frame ≡ Store d.journal.file st.snapshot st.bodies → OpensTo d.program d.device a b (settled_of d)
+  opens_old a b frame has same = opens_store d.program d.device d.journal.file a b st.snapshot st.bodies (settled_of d) (subst (HasStoreFrame a b) same has) st.comes
+
+  opens_more : (a b : List ℕ) (frame : StoreFrame) → HasStoreFrame a b frame → frame ≡ store_after d.journal.file st.snapshot st.bodies None body → OpensTo d.program d.device a b after
+  opens_more a b frame has same = opens_store d.program d.device d.journal.file a b st.snapshot (st.bodies ++ body ∷ []) after (subst (HasStoreFrame a b) same has) comes_more
+
+  opens_alone : is_due (seen_of d) ≡ true → (a b : List ℕ) (frame : StoreFrame) → HasStoreFrame a b frame → frame ≡ Store (other_file d.journal.file) (next_snapshot (seen_of d)) [] → OpensTo d.program d.device a b (settled_of d)
+  opens_alone due a b frame has same = opens_store d.program d.device (other_file d.journal.file) a b (next_snapshot (seen_of d)) [] (settled_of d) (subst (HasStoreFrame a b) same has) (comes_new due)
+
+  opens_new : is_due (seen_of d) ≡ true → (a b : List ℕ) (frame : StoreFrame) → HasStoreFrame a b frame → frame ≡ store_after d.journal.file st.snapshot st.bodies (Some (next_snapshot (seen_of d))) body → OpensTo d.program d.device a b after
+  opens_new due a b frame has same = opens_store d.program d.device (other_file d.journal.file) a b (next_snapshot (seen_of d)) (body ∷ []) after (subst (HasStoreFrame a b) same has) (comes_new_more due)
+
+  pub left_opens : (a b : List ℕ) (frame : StoreFrame) → HasStoreFrame a b frame → IsLeftBy d.journal.file st.snapshot st.bodies None body frame → OpensToEither (memory_of d) (settled_of d) after a b
+  left_opens a b frame has (inl same) = inl (opens_old a b frame has same)
+  left_opens a b frame has (inr (inl none)) = absurd none
+  left_opens a b frame has (inr (inr same)) = inr (opens_more a b frame has same)
+
+  pub left_opens_behind : is_due (seen_of d) ≡ true → (a b : List ℕ) (frame : StoreFrame) → HasStoreFrame a b frame → IsLeftBy d.journal.file st.snapshot st.bodies (Some (next_snapshot (seen_of d))) body frame → OpensToEither (memory_of d) (settled_of d) after a b
+  left_opens_behind due a b frame has (inl same) = inl (opens_old a b frame has same)
+  left_opens_behind due a b frame has (inr (inl alone)) = inl (opens_alone due a b frame has alone)
+  left_opens_behind due a b frame has (inr (inr same)) = inr (opens_new due a b frame has same)
 
   -- ---- at each moment
 
@@ -141,11 +160,15 @@ module _ (d : Inside) (inv : IsKept d) (entries : List Logged) (may : MaySettle 
 
   -- ---- as they read
 
-  pub reads_opens : (later : Past) → ReadAs (IsLeftBy d.journal.file st.snapshot st.bodies None (record_bytes (shape_of d.program).devices entries)) later → ReadsEither (memory_of d) (after_all d.program d.device entries (settled_of d)) later
-  reads_opens later (frame, has, left) = left_opens (content_of later 0) (content_of later 1) frame has left
+  pub reads_opens : (gate : Bool) (later : Past) → ReadAs (IsReadBy d.journal.file st.snapshot st.bodies None body gate) later → ReadsBy (memory_of d) after gate later
+  reads_opens true later (frame, has, same) = opens_more (content_of later 0) (content_of later 1) frame has same
+  reads_opens false later (frame, has, inl same) = opens_old (content_of later 0) (content_of later 1) frame has same
+  reads_opens false later (frame, has, inr none) = absurd none
 
-  pub reads_opens_behind : is_due (seen_of d) ≡ true → (later : Past) → ReadAs (IsLeftBy d.journal.file st.snapshot st.bodies (Some (next_snapshot (seen_of d))) (record_bytes (shape_of d.program).devices entries)) later → ReadsEither (memory_of d) (after_all d.program d.device entries (settled_of d)) later
-  reads_opens_behind due later (frame, has, left) = left_opens_behind due (content_of later 0) (content_of later 1) frame has left
+  pub reads_opens_behind : is_due (seen_of d) ≡ true → (gate : Bool) (later : Past) → ReadAs (IsReadBy d.journal.file st.snapshot st.bodies (Some (next_snapshot (seen_of d))) body gate) later → ReadsBy (memory_of d) after gate later
+  reads_opens_behind due true later (frame, has, same) = opens_new due (content_of later 0) (content_of later 1) frame has same
+  reads_opens_behind due false later (frame, has, inl same) = opens_old (content_of later 0) (content_of later 1) frame has same
+  reads_opens_behind due false later (frame, has, inr alone) = opens_alone due (content_of later 0) (content_of later 1) frame has alone
 
   -- ---- afterwards
 
@@ -176,6 +199,13 @@ some_due d entries ready snapshot x is here same =
 pub none_due : (d : DeviceState) (entries : List Logged) (ready : Ready) → IsReady d entries ready → ready.snapshot ≡ None → is_due d ≡ false
 none_due d entries ready is here = is_unframed d (ap (option_map (λ (bytes : Listed ℕ). bytes.items)) (sym here) ∙ is.snapshot_is)
 
+-- whether its record reads as open, by the frame that was handed in
+pub behind_due : (d : DeviceState) (x : List ℕ) (old now : Past) → (is_due d ≡ true) × (x ≡ frame_of (next_snapshot d)) → reads_open d.journal (Some x) old now ≡ record_reads_open d old now
+behind_due d x old now due = ap (λ (o : Option (List ℕ)). reads_open d.journal o old now) (ap Some due.1 ∙ sym (ap (option_map frame_of) (due_some d due.0)))
+
+pub behind_none : (d : DeviceState) (old now : Past) → is_due d ≡ false → reads_open d.journal None old now ≡ record_reads_open d old now
+behind_none d old now due = ap (λ (o : Option (List ℕ)). reads_open d.journal o old now) (sym (ap (option_map frame_of) (due_none d due)))
+
 pub next_due : (d : DeviceState) → is_due d ≡ true → next_generation d ≡ d.generation + 1
 next_due d due = ap (λ (b : Bool). if b then d.generation + 1 else d.generation) due
 
@@ -197,12 +227,16 @@ module _ (m : DeviceMemory) (after : Opened) (number : ℕ) (journal : Journal) 
   pub still_each : Throughout now now (LeavesEither m after now)
   still_each = no_step now now (LeavesEither m after now) refl still_leaves
 
-  pub still_reads : ReadsEither m after now
-  still_reads = inl (opens_store m.program m.device journal.file (content_of now 0) (content_of now 1) st.snapshot st.bodies m.settled st.stands.rests.frame st.comes)
+-- no record reads as open where no call was made
+none_open : (d : DeviceState) (now : Past) → record_reads_open d now now ≡ false
+none_open d now = few_shut d.journal (option_map frame_of (due_snapshot d)) now now (omega arith)
 
--- a record of the unsettled entries and of one more leads to where the device then is
-pub with_last : (m : DeviceMemory) (l : Logged) → after_all m.program m.device (m.unsettled ++ l ∷ []) m.settled ≡ current (with_entry m l)
-with_last m l = refl
+-- and the files read as before
+pub still_reads : (d : DeviceState) (after : Opened) (now : Past) → StandsSettled d now → ReadsBy d.memory after (record_reads_open d now now) now
+still_reads d after now st =
+    let m = d.memory in
+    subst (λ (gate : Bool). ReadsBy m after gate now) (sym (none_open d now))
+    (opens_store m.program m.device d.journal.file (content_of now 0) (content_of now 1) st.snapshot st.bodies m.settled st.stands.rests.frame st.comes)
 
 -- the number of the entry that is settled last
 pub done_number : (m : DeviceMemory) (l : Logged) → (current (all_settled (with_entry m l))).number ≡ (current m).number + 1

@@ -1,7 +1,7 @@
 -- What a device writes when it settles entries.
 -- Read against: a device with one unsettled turn that takes another writes one record of the two. With a journal of 65,537 bytes and generation 1 it first lays the snapshot of what its files hold, with generation 2; at generation 2^62, or with 65,536 bytes, it lays none.
 use Rattle.std.specs.Prelude.{◌≡◌, ℕ, ◌+◌, ◌-◌, ◌^◌, ◌&&◌, Bool, if◌then◌else◌, nat_lt, List, Option, Some, None, option_map, Result, Ok, Err}
-use Rattle.re_compact.specs.Committing.{committing_calls, committing_steps}
+use Rattle.re_compact.specs.Committing.{committing_calls, committing_steps, reads_open}
 use Rattle.re_journal.specs.Commits.{StopsJournal}
 use Rattle.re_journal.specs.Journals.{frame_of}
 use Rattle.re_journal.specs.declared.journal.Journal.{Journal}
@@ -46,6 +46,10 @@ settling_steps number d entries = committing_steps number d.journal (option_map 
 -- how many calls these are
 abbrev pub settling_calls : DeviceState → ℕ
 settling_calls d = committing_calls d.journal (option_map frame_of (due_snapshot d))
+
+-- of the calls that settle entries one was made that writes the record, and the record's gate reads as open
+abbrev pub record_reads_open : DeviceState → Past → Past → Bool
+record_reads_open d old now = reads_open d.journal (option_map frame_of (due_snapshot d)) old now
 
 -- all calls that settle these entries were made, or those up to one that failed, at which the journal stopped; where the call was refused otherwise none was made
 abbrev pub HasSettlingSteps : {T : Type 0} → DeviceState → List Logged → Option ℕ → Past → Past → Result T DeviceFault → Type 0

@@ -6,4 +6,5 @@ pub mod Placing
 pub mod Ready
 pub mod Refusals
 pub mod Standing
+pub mod Stepping
 pub mod Taking

@@ -1,7 +1,8 @@
 -- Where a device stands on its files, and what a stop may leave of them.
 -- Read against: a device of `device a; var x: int = 0;` that was opened on blank files stands on a store of generation 1, of the start and no record, and its files open to x = 0 and the number 0.
 -- At each moment of the turn x = 5 they open to this, or to x = 5 and the number 1; after it only to the latter. With one unsettled turn before it they open to the number 0 or to the number 2.
-use Rattle.std.specs.Prelude.{◌≡◌, ◌⊎◌, ℕ, List}
+-- Where its last call failed, a sync, the files read as with x = 5, for the record's gate reads as open; where its first call failed they read as with x = 0.
+use Rattle.std.specs.Prelude.{◌≡◌, ◌⊎◌, ℕ, Bool, true, false, List}
 use Rattle.re_compact.specs.Pair.{StandsIn}
 use Rattle.re_journal.specs.declared.journal.Journal.{Journal}
 use Rattle.re_outside.specs.Frame.{Store, generation}
@@ -32,9 +33,10 @@ pub record LeavesEither (m : DeviceMemory) (after : Opened) (old now : Past) : T
   pub images : (first second : List ℕ) → IsCrashImageOf now 0 first → IsCrashImageOf now 1 second → OpensToEither m m.settled after first second
   pub others : OnlyDeviceMoves old now
 
--- the files as they read open to what was settled before or to this
-abbrev pub ReadsEither : DeviceMemory → Opened → Past → Type 0
-ReadsEither m after now = OpensToEither m m.settled after (content_of now 0) (content_of now 1)
+-- the files as they read open to this where the gate of its record reads as open, and else to what was settled before
+abbrev pub ReadsBy : DeviceMemory → Opened → Bool → Past → Type 0
+ReadsBy m after true now = OpensTo m.program m.device (content_of now 0) (content_of now 1) after
+ReadsBy m after false now = OpensTo m.program m.device (content_of now 0) (content_of now 1) m.settled
 
 -- each pair of files that a stop may leave opens to this
 abbrev pub LeavesOnly : DeviceMemory → Opened → Past → Type 0

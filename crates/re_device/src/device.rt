@@ -11,11 +11,13 @@ ghost use Rattle.re_terms.specs.Programs.{IsProgram};
 ghost use Rattle.re_terms.specs.Shapes.{FitsShape, shape_of};
 ghost use Rattle.re_terms.specs.Views.{view_of};
 ghost use Rattle.re_terms.specs.WordKinds.{IsStateOf};
-ghost use Rattle.re_device.specs.Committing.{HasDiskCause, HasSettlingSteps};
+ghost use Rattle.re_terms.specs.declared.command.Command.TheVariants as command;
+ghost use Rattle.re_device.specs.Committing.{HasDiskCause, HasSettlingSteps, record_reads_open};
 ghost use Rattle.re_device.specs.Device.{all_settled, current, limit_against, logged, opened_at, takes_no_more, with_entry};
 ghost use Rattle.re_device.specs.Refusals.{fault_of_limit};
 ghost use Rattle.re_device.specs.Taking.{IsSettlingFault};
-ghost use Rattle.re_device.specs.Standing.{LeavesEither, ReadsEither, StandsSettled};
+ghost use Rattle.re_device.specs.Standing.{LeavesEither, ReadsBy, StandsSettled};
+ghost use Rattle.re_device.specs.Stepping.{IsPacketOf, StepsTo, StepsWhere, applied_as, entered_as, fared_as, settled_as};
 
 use crate::fault::{DeviceFault, Done};
 use crate::places::Places;
@@ -137,6 +139,10 @@ impl Device {
         ensures memory { OnOk result (self.new.memory ≡ all_settled (with_entry self.old.memory (logged self.old.memory (Entry.Turn turn.turn)))) }
         ensures number { IfOk result (λ done. done.number ≡ (current self.old.memory).number + 1) }
         ensures evaluated { IfOk result (λ done. steps.new ≡ steps.old + done.evaluated) }
+        ensures runs { OnOk result (self.new.journal.stopped ≡ None) }
+
+        // It is one step of each world whose device this is.
+        ensures world { StepsTo self.old self.new (command.Turn self.old.memory.device turn) (fared_as self.new.journal.stopped (record_reads_open self.old (D.past disk.old) (D.past disk.new)) result) (entered_as result) }
 
         // When each refusal comes, and that nothing has changed then.
         ensures running { OnOk result (self.old.journal.stopped ≡ None) }
@@ -156,7 +162,12 @@ impl Device {
 
         // A stop at any moment leaves all that was settled, with the entries of the record whole or with none of them.
         ensures each_moment { D.tells → StandsSettled self.old (D.past disk.old) → Throughout (D.past disk.old) (D.past disk.new) (LeavesEither self.old.memory (current (with_entry self.old.memory (logged self.old.memory (Entry.Turn turn.turn)))) (D.past disk.old)) }
-        ensures reads { D.tells → StandsSettled self.old (D.past disk.old) → ReadsEither self.old.memory (current (with_entry self.old.memory (logged self.old.memory (Entry.Turn turn.turn)))) (D.past disk.new) }
+
+        // Whatever failed, the files read as with these entries where the record's gate reads as open, and else as before: so where no call
+        // was made, or one of those failed that lay a due snapshot and open its gate.
+        ensures reads { D.tells → StandsSettled self.old (D.past disk.old) → ReadsBy self.old.memory (current (with_entry self.old.memory (logged self.old.memory (Entry.Turn turn.turn)))) (record_reads_open self.old (D.past disk.old) (D.past disk.new)) (D.past disk.new) }
+
+        // After Ok the journal stands on what is then settled.
         ensures stands { D.tells → OnOk result (StandsSettled self.old (D.past disk.old) → StandsSettled self.new (D.past disk.new)) }
         ensures device { (D.past disk.new).device ≡ (D.past disk.old).device }
         ensures rest { D.rest disk.new ≡ D.rest disk.old }
@@ -181,6 +192,10 @@ impl Device {
         ensures memory { OnOk result (self.new.memory ≡ all_settled (with_entry self.old.memory (logged self.old.memory (Entry.Merge state)))) }
         ensures number { IfOk result (λ done. done.number ≡ (current self.old.memory).number + 1) }
         ensures evaluated { IfOk result (λ done. steps.new ≡ steps.old + done.evaluated) }
+        ensures runs { OnOk result (self.new.journal.stopped ≡ None) }
+
+        // It is one step of each world whose device this is, and which has a packet that the state stands for.
+        ensures world { (k : ℕ) → StepsWhere (IsPacketOf self.old k state) self.old self.new (command.Deliver k self.old.memory.device) (fared_as self.new.journal.stopped (record_reads_open self.old (D.past disk.old) (D.past disk.new)) result) (entered_as result) }
 
         // When each refusal comes, and that nothing has changed then.
         ensures running { OnOk result (self.old.journal.stopped ≡ None) }
@@ -200,7 +215,12 @@ impl Device {
 
         // A stop at any moment leaves all that was settled, with the entries of the record whole or with none of them.
         ensures each_moment { D.tells → StandsSettled self.old (D.past disk.old) → Throughout (D.past disk.old) (D.past disk.new) (LeavesEither self.old.memory (current (with_entry self.old.memory (logged self.old.memory (Entry.Merge state)))) (D.past disk.old)) }
-        ensures reads { D.tells → StandsSettled self.old (D.past disk.old) → ReadsEither self.old.memory (current (with_entry self.old.memory (logged self.old.memory (Entry.Merge state)))) (D.past disk.new) }
+
+        // Whatever failed, the files read as with these entries where the record's gate reads as open, and else as before: so where no call
+        // was made, or one of those failed that lay a due snapshot and open its gate.
+        ensures reads { D.tells → StandsSettled self.old (D.past disk.old) → ReadsBy self.old.memory (current (with_entry self.old.memory (logged self.old.memory (Entry.Merge state)))) (record_reads_open self.old (D.past disk.old) (D.past disk.new)) (D.past disk.new) }
+
+        // After Ok the journal stands on what is then settled.
         ensures stands { D.tells → OnOk result (StandsSettled self.old (D.past disk.old) → StandsSettled self.new (D.past disk.new)) }
         ensures device { (D.past disk.new).device ≡ (D.past disk.old).device }
         ensures rest { D.rest disk.new ≡ D.rest disk.old }
@@ -224,6 +244,11 @@ impl Device {
         ensures memory { OnOk result (self.new.memory ≡ with_entry self.old.memory (logged self.old.memory (Entry.Turn turn.turn))) }
         ensures number { IfOk result (λ number. number ≡ (current self.old.memory).number + 1) }
         ensures store { (self.new.journal ≡ self.old.journal) × (self.new.generation ≡ self.old.generation) }
+
+        // It is one step of each world whose device this is.
+        ensures world { StepsTo self.old self.new (command.Lazy self.old.memory.device turn) (fared_as self.new.journal.stopped false result) (applied_as result) }
+
+        // When each refusal comes, and that nothing has changed then.
         ensures running { OnOk result (self.old.journal.stopped ≡ None) }
         ensures stopped { (at : ℕ) → (result ≡ Err (DeviceFault.Stopped at)) ↔ (self.old.journal.stopped ≡ Some at) }
         ensures full { (result ≡ Err DeviceFault.Full) ↔ ((self.old.journal.stopped ≡ None) × (takes_no_more self.old.memory ≡ true)) }
@@ -251,21 +276,32 @@ impl Device {
     pub fn settle<D: Disk>(&mut self, disk: &mut D) -> Result<u64, DeviceFault>
         ensures memory { OnOk result (self.new.memory ≡ all_settled self.old.memory) }
         ensures number { IfOk result (λ number. number ≡ (current self.old.memory).number) }
+        ensures runs { OnOk result (self.new.journal.stopped ≡ None) }
+
+        // It is one step of each world whose device this is.
+        ensures world { StepsTo self.old self.new (command.Settle self.old.memory.device) (fared_as self.new.journal.stopped (record_reads_open self.old (D.past disk.old) (D.past disk.new)) result) (settled_as result) }
+
+        // When each refusal comes, and that nothing has changed then.
         ensures running { OnOk result (self.old.journal.stopped ≡ None) }
         ensures stopped { (at : ℕ) → (result ≡ Err (DeviceFault.Stopped at)) ↔ (self.old.journal.stopped ≡ Some at) }
         ensures only { (f : DeviceFault) → result ≡ Err f → IsSettlingFault f }
-        ensures none { self.old.memory.unsettled ≡ [] → OnOk result ((self.new ≡ self.old) × (D.past disk.new ≡ D.past disk.old)) }
+        ensures none { self.old.memory.unsettled ≡ [] → (self.new ≡ self.old) × (D.past disk.new ≡ D.past disk.old) }
         ensures cause { HasDiskCause (D.faults disk.old) (D.faults disk.new) result }
         ensures refused { (f : DeviceFault) → result ≡ Err f → self.new.memory ≡ self.old.memory }
         ensures unchanged { (f : DeviceFault) → result ≡ Err f → f ≢ DeviceFault.Disk → self.new ≡ self.old }
         ensures stops { result ≡ Err DeviceFault.Disk → self.new.journal.stopped ≢ None }
 
-        // The calls of the disk, in order, up to the first that failed.
+        // The calls of the disk, in order, up to the first that failed; where nothing is unsettled `none` says that no call is made.
         ensures steps { D.tells → self.old.memory.unsettled ≢ [] → HasSettlingSteps self.old self.old.memory.unsettled self.new.journal.stopped (D.past disk.old) (D.past disk.new) result }
 
         // A stop at any moment leaves all that was settled, with the unsettled entries whole or with none of them.
         ensures each_moment { D.tells → StandsSettled self.old (D.past disk.old) → Throughout (D.past disk.old) (D.past disk.new) (LeavesEither self.old.memory (current self.old.memory) (D.past disk.old)) }
-        ensures reads { D.tells → StandsSettled self.old (D.past disk.old) → ReadsEither self.old.memory (current self.old.memory) (D.past disk.new) }
+
+        // Whatever failed, the files read as with these entries where the record's gate reads as open, and else as before: so where no call
+        // was made, or one of those failed that lay a due snapshot and open its gate.
+        ensures reads { D.tells → StandsSettled self.old (D.past disk.old) → ReadsBy self.old.memory (current self.old.memory) (record_reads_open self.old (D.past disk.old) (D.past disk.new)) (D.past disk.new) }
+
+        // After Ok the journal stands on what is then settled.
         ensures stands { D.tells → OnOk result (StandsSettled self.old (D.past disk.old) → StandsSettled self.new (D.past disk.new)) }
         ensures device { (D.past disk.new).device ≡ (D.past disk.old).device }
         ensures rest { D.rest disk.new ≡ D.rest disk.old }

@@ -8,10 +8,10 @@ ghost use Rattle.re_journal.specs.Commits.{HasCause, StopsJournal};
 ghost use Rattle.re_journal.specs.declared.fault.JournalFault.{JournalFault as TheJournalFault};
 ghost use Rattle.re_journal.specs.declared.fault.JournalFault.TheVariants.{Disk as JournalDisk, Stopped as JournalStopped};
 ghost use Rattle.re_outside.specs.Trace.{with_steps};
-ghost use Rattle.re_device.specs.Committing.{HasDiskCause, HasSettlingSteps, due_snapshot, framed_record, is_due, next_generation, settling_steps};
+ghost use Rattle.re_device.specs.Committing.{HasDiskCause, HasSettlingSteps, due_snapshot, framed_record, is_due, next_generation, record_reads_open, settling_steps};
 ghost use Rattle.re_device.specs.Device.{all_settled, current, logged, takes_no_more, with_entry};
 ghost use Rattle.re_device.specs.Ready.{IsFrameOf, IsReady, MaySettle};
-ghost use Rattle.re_device.specs.Standing.{LeavesEither, ReadsEither, StandsAt, StandsSettled};
+ghost use Rattle.re_device.specs.Standing.{LeavesEither, ReadsBy, StandsAt, StandsSettled};
 ghost use Rattle.re_device.specs.Taking.{IsCommitFault, MayBeTaken};
 
 use crate::device::Device;
@@ -193,12 +193,13 @@ impl Device {
         requires { (entries : List LoggedEntry) × IsReady self.old entries ready.now }
         ensures memory { (self.new.memory ≡ self.old.memory) × (self.new.room ≡ self.old.room) }
         ensures generation { OnOk result (self.new.generation ≡ next_generation self.old) }
+        ensures runs { OnOk result (self.new.journal.stopped ≡ self.old.journal.stopped) }
         ensures done { (entries : List LoggedEntry) → D.tells → IsReady self.old entries ready.now → OnOk result (D.past disk.new ≡ with_steps (D.past disk.old) (settling_steps (D.past disk.old).device self.old entries)) }
         ensures failed { (entries : List LoggedEntry) → D.tells → IsReady self.old entries ready.now → result ≡ Err JournalDisk → StopsJournal (settling_steps (D.past disk.old).device self.old entries) self.old.journal.calls self.new.journal.stopped (D.past disk.old) (D.past disk.new) }
         ensures cause { HasCause self.old.journal.stopped (D.faults disk.old) (D.faults disk.new) result }
         ensures stops { result ≡ Err JournalDisk → self.new.journal.stopped ≢ None }
         ensures each_moment { (entries : List LoggedEntry) → D.tells → StandsSettled self.old (D.past disk.old) → IsReady self.old entries ready.now → MaySettle self.old.memory entries → Throughout (D.past disk.old) (D.past disk.new) (LeavesEither self.old.memory (after_all self.old.memory.program self.old.memory.device entries self.old.memory.settled) (D.past disk.old)) }
-        ensures reads { (entries : List LoggedEntry) → D.tells → StandsSettled self.old (D.past disk.old) → IsReady self.old entries ready.now → MaySettle self.old.memory entries → ReadsEither self.old.memory (after_all self.old.memory.program self.old.memory.device entries self.old.memory.settled) (D.past disk.new) }
+        ensures reads { (entries : List LoggedEntry) → D.tells → StandsSettled self.old (D.past disk.old) → IsReady self.old entries ready.now → MaySettle self.old.memory entries → ReadsBy self.old.memory (after_all self.old.memory.program self.old.memory.device entries self.old.memory.settled) (record_reads_open self.old (D.past disk.old) (D.past disk.new)) (D.past disk.new) }
         ensures stands { (entries : List LoggedEntry) → D.tells → OnOk result (StandsSettled self.old (D.past disk.old) → IsReady self.old entries ready.now → MaySettle self.old.memory entries → StandsAt self.old.memory (after_all self.old.memory.program self.old.memory.device entries self.old.memory.settled) self.new.generation self.new.journal (D.past disk.new)) }
         ensures device { (D.past disk.new).device ≡ (D.past disk.old).device }
         ensures rest { D.rest disk.new ≡ D.rest disk.old }
@@ -224,6 +225,7 @@ impl Device {
         requires more { takes_no_more self.old.memory ≡ false }
         requires taken { MayBeTaken self.old.memory taken }
         ensures memory { OnOk result (self.new.memory ≡ all_settled (with_entry self.old.memory taken.logged)) }
+        ensures runs { OnOk result (self.new.journal.stopped ≡ None) }
         ensures done { IfOk result (λ done. (done.number ≡ (current self.old.memory).number + 1) × (done.evaluated ≡ taken.evaluated)) }
         ensures cause { HasDiskCause (D.faults disk.old) (D.faults disk.new) result }
         ensures refused { (f : DeviceFault) → result ≡ Err f → self.new.memory ≡ self.old.memory }
@@ -232,7 +234,7 @@ impl Device {
         ensures stops { result ≡ Err DeviceFault.Disk → self.new.journal.stopped ≢ None }
         ensures steps { D.tells → HasSettlingSteps self.old (self.old.memory.unsettled ++ taken.logged ∷ []) self.new.journal.stopped (D.past disk.old) (D.past disk.new) result }
         ensures each_moment { D.tells → StandsSettled self.old (D.past disk.old) → Throughout (D.past disk.old) (D.past disk.new) (LeavesEither self.old.memory (current (with_entry self.old.memory taken.logged)) (D.past disk.old)) }
-        ensures reads { D.tells → StandsSettled self.old (D.past disk.old) → ReadsEither self.old.memory (current (with_entry self.old.memory taken.logged)) (D.past disk.new) }
+        ensures reads { D.tells → StandsSettled self.old (D.past disk.old) → ReadsBy self.old.memory (current (with_entry self.old.memory taken.logged)) (record_reads_open self.old (D.past disk.old) (D.past disk.new)) (D.past disk.new) }
         ensures stands { D.tells → OnOk result (StandsSettled self.old (D.past disk.old) → StandsSettled self.new (D.past disk.new)) }
         ensures device { (D.past disk.new).device ≡ (D.past disk.old).device }
         ensures rest { D.rest disk.new ≡ D.rest disk.old }

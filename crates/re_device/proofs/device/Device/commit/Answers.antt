@@ -3,9 +3,10 @@ use Rattle.std.proofs.Common.{◌≡◌, ◌∙◌, ◌++◌, ◌∷◌, [], ℕ
 use Rattle.re_record.specs.Restoring.{after_all}
 use Rattle.re_device.proofs.Settling.{done_number, ready_room, settled_stands, still_each, still_reads}
 use Rattle.re_device.proofs.device.Device.commit.Goals as goal
+use Rattle.re_device.specs.Committing.{record_reads_open}
 use Rattle.re_device.specs.Device.{DeviceMemory, DeviceState, all_settled, current, with_entry}
 use Rattle.re_device.specs.Ready.{MaySettle}
-use Rattle.re_device.specs.Standing.{LeavesEither, ReadsEither, StandsAt, StandsSettled}
+use Rattle.re_device.specs.Standing.{LeavesEither, ReadsBy, StandsAt, StandsSettled}
 use Rattle.re_outside.specs.Moment.{Throughout}
 use Rattle.re_journal.specs.declared.journal.Journal.{Journal}
 
@@ -13,13 +14,13 @@ pub returns-in_err-ready-clause-each_moment : goal.returns-in_err-ready-clause-e
 returns-in_err-ready-clause-each_moment g c = λ tells st. still_each c.args.self.now.memory (current (with_entry c.args.self.now.memory c.args.taken.logged)) c.args.self.now.generation c.args.self.now.journal (g.D.Disk.past c.args.disk.now) st
 
 pub returns-in_err-ready-clause-reads : goal.returns-in_err-ready-clause-reads
-returns-in_err-ready-clause-reads g c = λ tells st. still_reads c.args.self.now.memory (current (with_entry c.args.self.now.memory c.args.taken.logged)) c.args.self.now.generation c.args.self.now.journal (g.D.Disk.past c.args.disk.now) st
+returns-in_err-ready-clause-reads g c = λ tells st. still_reads c.args.self.now (current (with_entry c.args.self.now.memory c.args.taken.logged)) (g.D.Disk.past c.args.disk.now) st
 
 pub returns-in_err-make_room-clause-each_moment : goal.returns-in_err-make_room-clause-each_moment
 returns-in_err-make_room-clause-each_moment g c = λ tells st. still_each c.args.self.now.memory (current (with_entry c.args.self.now.memory c.args.taken.logged)) c.args.self.now.generation c.args.self.now.journal (g.D.Disk.past c.args.disk.now) st
 
 pub returns-in_err-make_room-clause-reads : goal.returns-in_err-make_room-clause-reads
-returns-in_err-make_room-clause-reads g c = λ tells st. still_reads c.args.self.now.memory (current (with_entry c.args.self.now.memory c.args.taken.logged)) c.args.self.now.generation c.args.self.now.journal (g.D.Disk.past c.args.disk.now) st
+returns-in_err-make_room-clause-reads g c = λ tells st. still_reads c.args.self.now (current (with_entry c.args.self.now.memory c.args.taken.logged)) (g.D.Disk.past c.args.disk.now) st
 
 pub write_store-requires : goal.write_store-requires
 write_store-requires g c =
@@ -49,7 +50,7 @@ returns-in_err-write_store-clause-reads g c = λ tells st.
     let here : w.memory ≡ v.memory = ap (λ (x : DeviceState). x.memory) same in
     let old = g.D.Disk.past c.args.disk.now in
     let new = g.D.Disk.past c.write_store.new.disk in
-    subst (λ (m : DeviceMemory). ReadsEither m (after_all m.program m.device es m.settled) new) here
+    subst (λ (x : DeviceState). ReadsBy x.memory (after_all x.memory.program x.memory.device es x.memory.settled) (record_reads_open x old new) new) same
     (c.write_store.ensures.reads es tells (subst (λ (x : DeviceState). StandsSettled x old) (sym same) st) (ready_room v w w.room es c.in_ok-ready.ready same c.in_ok-ready.ensures.ready) (subst (λ (m : DeviceMemory). MaySettle m es) (sym here) (c.in_ok-ready.ensures.settles c.requires.more)))
 
 pub returns-clause-each_moment : goal.returns-clause-each_moment
@@ -73,7 +74,7 @@ returns-clause-reads g c = λ tells st.
     let here : w.memory ≡ v.memory = ap (λ (x : DeviceState). x.memory) same in
     let old = g.D.Disk.past c.args.disk.now in
     let new = g.D.Disk.past c.write_store.new.disk in
-    subst (λ (m : DeviceMemory). ReadsEither m (after_all m.program m.device es m.settled) new) here
+    subst (λ (x : DeviceState). ReadsBy x.memory (after_all x.memory.program x.memory.device es x.memory.settled) (record_reads_open x old new) new) same
     (c.write_store.ensures.reads es tells (subst (λ (x : DeviceState). StandsSettled x old) (sym same) st) (ready_room v w w.room es c.in_ok-ready.ready same c.in_ok-ready.ensures.ready) (subst (λ (m : DeviceMemory). MaySettle m es) (sym here) (c.in_ok-ready.ensures.settles c.requires.more)))
 
 pub returns-clause-done : goal.returns-clause-done

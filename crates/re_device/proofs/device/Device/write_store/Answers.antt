@@ -1,5 +1,5 @@
 -- What the commit leaves opens to the one or to the other.
-use Rattle.std.proofs.Common.{◌∙◌, ◌+◌, List, subst, Some, None}
+use Rattle.std.proofs.Common.{◌∙◌, ◌+◌, Bool, List, subst, Some, None}
 use Rattle.std.specs.Prelude.{OnOk}
 use Rattle.re_outside.specs.Moment.{Throughout}
 use Rattle.re_record.specs.Restoring.{after_all}
@@ -7,13 +7,14 @@ use Rattle.re_record.specs.Spellings.{record_bytes}
 use Rattle.re_terms.specs.Shapes.{shape_of}
 use Rattle.re_terms.specs.declared.entry.Logged.{Logged}
 use Rattle.re_device.proofs.Results.{at_ok, ok_from}
-use Rattle.re_device.proofs.Settling.{each_opens, each_opens_behind, may_commit, may_commit_behind, none_due, reads_opens, reads_opens_behind, some_due, stands_behind, stands_more}
+use Rattle.re_device.proofs.Settling.{behind_due, behind_none, each_opens, each_opens_behind, may_commit, may_commit_behind, none_due, reads_opens, reads_opens_behind, some_due, stands_behind, stands_more}
 use Rattle.re_device.proofs.device.Device.write_store.Goals as goal
-use Rattle.re_device.specs.Committing.{next_snapshot}
+use Rattle.re_compact.specs.Committing.{reads_open}
+use Rattle.re_device.specs.Committing.{next_snapshot, record_reads_open}
 use Rattle.re_device.specs.Device.{DeviceState}
 use Rattle.re_device.specs.Keeping.{memory_of, seen_of, settled_of}
 use Rattle.re_device.specs.Ready.{IsReady, MaySettle}
-use Rattle.re_device.specs.Standing.{LeavesEither, ReadsEither, StandsAt, StandsSettled}
+use Rattle.re_device.specs.Standing.{LeavesEither, ReadsBy, StandsAt, StandsSettled}
 
 pub returns-in_err-commit_record-in-Some-clause-each_moment : goal.returns-in_err-commit_record-in-Some-clause-each_moment
 returns-in_err-commit_record-in-Some-clause-each_moment g c =
@@ -56,36 +57,39 @@ returns-in_err-commit_record-in-Some-clause-reads g c =
     let d = c.self.inside in
     let old = g.D.Disk.past c.args.disk.now in
     let new = g.D.Disk.past c.commit_record.new.disk in
-    subst (λ (v : DeviceState). (entries : List Logged) → g.D.Disk.tells → StandsSettled v old → IsReady v entries c.args.ready.now → MaySettle v.memory entries → ReadsEither v.memory (after_all v.memory.program v.memory.device entries v.memory.settled) new) c.self.view_is
+    subst (λ (v : DeviceState). (entries : List Logged) → g.D.Disk.tells → StandsSettled v old → IsReady v entries c.args.ready.now → MaySettle v.memory entries → ReadsBy v.memory (after_all v.memory.program v.memory.device entries v.memory.settled) (record_reads_open v old new) new) c.self.view_is
     (λ entries tells st ready may.
     let due = some_due (seen_of d) entries c.args.ready.now c.in-Some.snapshot c.as_slice.result.now ready c.in-Some.is c.as_slice.ensures in
-    reads_opens_behind d c.self.invariant entries may old st due.0 new
+    subst (λ (gate : Bool). ReadsBy (memory_of d) (after_all d.program d.device entries (settled_of d)) gate new) (behind_due (seen_of d) c.as_slice.result.now old new due)
+    (reads_opens_behind d c.self.invariant entries may old st due.0 (reads_open d.journal (Some c.as_slice.result.now) old new) new
     (c.commit_record.ensures.reads st.snapshot st.bodies (Some (next_snapshot (seen_of d))) (record_bytes (shape_of d.program).devices entries) tells st.stands
-    (may_commit_behind d c.self.invariant entries may old st c.as_slice.result.now c.as_slice-record.result.now due.0 due.1 (c.as_slice-record.ensures ∙ ready.record_is))))
+    (may_commit_behind d c.self.invariant entries may old st c.as_slice.result.now c.as_slice-record.result.now due.0 due.1 (c.as_slice-record.ensures ∙ ready.record_is)))))
 
 pub returns-in_ok-commit_record-in-Some-clause-reads : goal.returns-in_ok-commit_record-in-Some-clause-reads
 returns-in_ok-commit_record-in-Some-clause-reads g c =
     let d = c.self.inside in
     let old = g.D.Disk.past c.args.disk.now in
     let new = g.D.Disk.past c.commit_record.new.disk in
-    subst (λ (v : DeviceState). (entries : List Logged) → g.D.Disk.tells → StandsSettled v old → IsReady v entries c.args.ready.now → MaySettle v.memory entries → ReadsEither v.memory (after_all v.memory.program v.memory.device entries v.memory.settled) new) c.self.view_is
+    subst (λ (v : DeviceState). (entries : List Logged) → g.D.Disk.tells → StandsSettled v old → IsReady v entries c.args.ready.now → MaySettle v.memory entries → ReadsBy v.memory (after_all v.memory.program v.memory.device entries v.memory.settled) (record_reads_open v old new) new) c.self.view_is
     (λ entries tells st ready may.
     let due = some_due (seen_of d) entries c.args.ready.now c.in-Some.snapshot c.as_slice.result.now ready c.in-Some.is c.as_slice.ensures in
-    reads_opens_behind d c.self.invariant entries may old st due.0 new
+    subst (λ (gate : Bool). ReadsBy (memory_of d) (after_all d.program d.device entries (settled_of d)) gate new) (behind_due (seen_of d) c.as_slice.result.now old new due)
+    (reads_opens_behind d c.self.invariant entries may old st due.0 (reads_open d.journal (Some c.as_slice.result.now) old new) new
     (c.commit_record.ensures.reads st.snapshot st.bodies (Some (next_snapshot (seen_of d))) (record_bytes (shape_of d.program).devices entries) tells st.stands
-    (may_commit_behind d c.self.invariant entries may old st c.as_slice.result.now c.as_slice-record.result.now due.0 due.1 (c.as_slice-record.ensures ∙ ready.record_is))))
+    (may_commit_behind d c.self.invariant entries may old st c.as_slice.result.now c.as_slice-record.result.now due.0 due.1 (c.as_slice-record.ensures ∙ ready.record_is)))))
 
 pub returns-in-None-clause-reads : goal.returns-in-None-clause-reads
 returns-in-None-clause-reads g c =
     let d = c.self.inside in
     let old = g.D.Disk.past c.args.disk.now in
     let new = g.D.Disk.past c.commit_record-in-None.new.disk in
-    subst (λ (v : DeviceState). (entries : List Logged) → g.D.Disk.tells → StandsSettled v old → IsReady v entries c.args.ready.now → MaySettle v.memory entries → ReadsEither v.memory (after_all v.memory.program v.memory.device entries v.memory.settled) new) c.self.view_is
+    subst (λ (v : DeviceState). (entries : List Logged) → g.D.Disk.tells → StandsSettled v old → IsReady v entries c.args.ready.now → MaySettle v.memory entries → ReadsBy v.memory (after_all v.memory.program v.memory.device entries v.memory.settled) (record_reads_open v old new) new) c.self.view_is
     (λ entries tells st ready may.
     let due = none_due (seen_of d) entries c.args.ready.now ready c.in-None.is in
-    reads_opens d c.self.invariant entries may old st new
+    subst (λ (gate : Bool). ReadsBy (memory_of d) (after_all d.program d.device entries (settled_of d)) gate new) (behind_none (seen_of d) old new due)
+    (reads_opens d c.self.invariant entries may old st (reads_open d.journal None old new) new
     (c.commit_record-in-None.ensures.reads st.snapshot st.bodies None (record_bytes (shape_of d.program).devices entries) tells st.stands
-    (may_commit d c.self.invariant entries may old st c.as_slice-record.result.now due (c.as_slice-record.ensures ∙ ready.record_is))))
+    (may_commit d c.self.invariant entries may old st c.as_slice-record.result.now due (c.as_slice-record.ensures ∙ ready.record_is)))))
 
 pub returns-in_ok-commit_record-in-Some-clause-stands : goal.returns-in_ok-commit_record-in-Some-clause-stands
 returns-in_ok-commit_record-in-Some-clause-stands g c =

@@ -1,0 +1,44 @@
+-- What the files of all devices open to at one moment, and the update log behind them.
+-- Read against: on `device a; device b; counter c;`, with one settled add of a and a second one under way, files of a that hold both open to two entries, and the log behind all files has both updates;
+-- files of a that hold the first alone open to one entry, and the log has the first alone. Nothing of b's files has to do with it.
+use Rattle.std.specs.Prelude.{◌≡◌, ◌⊎◌, ℕ, ◌+◌, ◌<◌, List, [], ◌++◌, length, map, take, Option}
+use Rattle.std.specs.List.{range_with_len}
+use Rattle.re_record.specs.Represents.{Represents}
+use Rattle.re_record.specs.Restoring.{Opened}
+use Rattle.re_record.specs.Stores.{OpensTo}
+use Rattle.re_terms.specs.Admission.{device_count}
+use Rattle.re_terms.specs.DeviceWorlds.{World, settled_taken}
+use Rattle.re_terms.specs.Entries.{PlainEntry, run_entries, run_updates}
+use Rattle.re_terms.specs.JointLogs.{Further, all_of}
+use Rattle.re_terms.specs.Lines.{Done, further}
+use Rattle.re_terms.specs.Runs.{StandsForPlain}
+use Rattle.re_terms.specs.Updates.{Update}
+use Rattle.re_terms.specs.declared.program.Program.{Program}
+
+-- two files of a device open to the state after these of its entries, and to the number of the last
+pub record OpensAfter (p : Program) (w : World) (d : ℕ) (first second : List ℕ) (entries : List PlainEntry) : Type 0 where
+  pub opened : Opened
+  pub opens : OpensTo p d first second opened
+  pub state : StandsForPlain p opened.state (run_entries p d (w.base d) entries)
+  pub number_is : opened.number ≡ w.base_number d + length entries
+
+-- they open to its settled entries, or to these and all further ones that they may hold
+abbrev pub OpensToLine : Program → World → Option Done → ℕ → List ℕ → List ℕ → Type 0
+OpensToLine p w under_way d first second = OpensAfter p w d first second (w.settled d) ⊎ OpensAfter p w d first second (w.settled d ++ further p w under_way d)
+
+-- the updates of so many of a device's further entries
+abbrev pub updates_held : Program → World → Option Done → (ℕ → ℕ) → ℕ → Further
+updates_held p w under_way more d = record { device = d; updates = run_updates d (settled_taken w d) (take (more d) (further p w under_way d)) }
+
+-- the log behind files that hold so many further entries of each device: the world's, and behind it by device the updates of these
+abbrev pub log_held : Program → World → Option Done → (ℕ → ℕ) → List Update
+log_held p w under_way more = w.log ++ all_of (map (updates_held p w under_way more) (range_with_len 0 (device_count p.decls.items)))
+
+-- What a stop leaves of a world in which a command may be under way: each device's files open to the state after a front of its line that has all settled entries,
+-- and all further ones or none, and one update log stands behind the files, of which the world's is a front.
+pub record Restores (p : Program) (w : World) (under_way : Option Done) (files : ℕ → ℕ → List ℕ) : Type 0 where
+  -- how many further entries the files of each device hold
+  pub more : ℕ → ℕ
+  pub whole : (d : ℕ) → d < device_count p.decls.items → (more d ≡ 0) ⊎ (more d ≡ length (further p w under_way d))
+  pub opens : (d : ℕ) → d < device_count p.decls.items → OpensAfter p w d (files d 0) (files d 1) (w.settled d ++ take (more d) (further p w under_way d))
+  pub represents : Represents p files (log_held p w under_way more)

@@ -1,0 +1,4 @@
+//! The devices of a program, their packets, and the commands to them.
+#![tactic(auto)]
+
+pub mod laws;
