@@ -1,27 +1,26 @@
 -- One update log stands behind the files of all devices, by what each device's files hold.
-use Rattle.std.proofs.Common.{◌≡◌, ◌⊎◌, inl, inr, ◌<◌, ◌≤◌, ◌+◌, ◌++◌, ◌∷◌, [], ℕ, zero, suc, List, Option, None, Some, length, refl, sym, ap, subst, ◌∙◌, arith}
-use Rattle.std.specs.Prelude.{◌≢◌, map, take, slice_index}
+use Rattle.std.proofs.Common.{◌≡◌, ◌⊎◌, inl, inr, ◌<◌, ◌≤◌, ◌+◌, ◌++◌, ◌∷◌, [], ℕ, zero, suc, List, Option, length, refl, sym, ap, subst, ◌∙◌, arith}
+use Rattle.std.specs.Prelude.{map, take, slice_index}
 use Rattle.std.specs.List.{range_with_len}
 use Rattle.std.proofs.lemmas.Bool.{cases_lt}
 use Rattle.std.proofs.lemmas.List.{append-nil}
 use Rattle.re_terms.proofs.Logs.{IsIn-cases, IsIn-from_filter}
 use Rattle.std.proofs.Math.Seq.{take-length}
-use Rattle.re_record.specs.Represents.{DeviceRepresents, Represents, counts_of}
-use Rattle.re_record.specs.Restoring.{Opened}
-use Rattle.re_terms.proofs.Growing.{all_append, entries_follow, entries_own, entries_taken, joint_count, run_taken-append}
+use Rattle.re_record.specs.Represents.{DeviceRepresents, counts_of}
+use Rattle.re_terms.proofs.Growing.{all_append, entries_follow, entries_taken, joint_count, run_taken-append}
 use Rattle.re_terms.proofs.Joint.{count-append, joint_causal, joint_closed, joint_covered}
 use Rattle.re_terms.proofs.Members.{state_same}
 use Rattle.re_terms.proofs.WorldEffects.{run-taken}
 use Rattle.re_terms.specs.Admission.{device_count}
 use Rattle.re_terms.specs.CausalWorlds.{IsCausalWorld}
 use Rattle.re_terms.specs.DeviceWorlds.{World, settled_taken}
-use Rattle.re_terms.specs.Entries.{PlainEntry, run_entries, run_taken, run_updates}
+use Rattle.re_terms.specs.Entries.{PlainEntry, run_entries, run_taken}
 use Rattle.re_terms.specs.JointLogs.{Further, all_of, AllFollow, Follows, IsOneOf, NoneOf}
 use Rattle.re_terms.specs.Lines.{Done, entry_under_way, first_filled, further}
 use Rattle.re_terms.specs.Parts.{AllFit}
 use Rattle.re_terms.specs.Shapes.{shape_of}
 use Rattle.re_terms.specs.TakenIn.{IsTakenIn}
-use Rattle.re_terms.specs.Updates.{Update, IsCausalLog, IsCausallyClosed, IsIn, count_of, covered, vector_of}
+use Rattle.re_terms.specs.Updates.{Update, IsCausalLog, IsCausallyClosed, IsIn, covered, vector_of}
 use Rattle.re_terms.specs.Vectors.{covers}
 use Rattle.re_terms.specs.UpdateStates.{state_of_updates}
 use Rattle.re_terms.specs.declared.program.Program.{Program}

@@ -1,1 +1,5 @@
 pub mod Images
+pub mod Opening
+pub mod Standing
+pub mod Starting
+pub mod State

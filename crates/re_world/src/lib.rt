@@ -2,3 +2,7 @@
 #![tactic(auto)]
 
 pub mod laws;
+mod opening;
+mod world;
+
+pub use world::World;

@@ -1,0 +1,183 @@
+-- One device more is opened behind others.
+use Rattle.std.proofs.Common.{◌≡◌, ◌⊎◌, inl, inr, ◌<◌, ◌≤◌, ◌+◌, ◌-◌, ◌++◌, ◌∷◌, [], ℕ, zero, suc, List, Option, Some, Result, Ok, Err, length, refl, sym, ap, subst, ◌∙◌, arith}
+use Rattle.std.specs.Prelude.{◌≢◌, OnOk, option_and_then, slice_get}
+use Rattle.std.proofs.lemmas.Bool.{cases_lt}
+use Rattle.std.proofs.lemmas.List.{length-append}
+use Rattle.std.proofs.lemmas.Option.{slice_get_past}
+use Rattle.std.proofs.lemmas.Bool.Decides.{eqb_tells}
+use Rattle.re_outside.proofs.Elsewhere as elsewhere
+use Rattle.re_outside.proofs.Moments.{at_end, join, no_step, of_outside}
+use Rattle.re_outside.specs.Frame.{is_blank}
+use Rattle.re_outside.specs.Moment.{IsKept, Throughout}
+use Rattle.re_outside.specs.Outside.{Seen, content_in}
+use Rattle.re_outside.specs.Port.{past_in}
+use Rattle.re_outside.specs.Trace.{Past, IsBefore, IsCrashImageAt, as_device, content_of}
+use Rattle.re_record.specs.Restoring.{unopened}
+use Rattle.re_record.specs.Stores.{OpensTo}
+use Rattle.re_restore.specs.Opening.{AreBlank, StillOpens}
+use Rattle.re_terms.specs.Listed.{Listed}
+use Rattle.re_terms.specs.declared.program.Program.{Program}
+use Rattle.re_device.specs.Device.{DeviceMemory, DeviceState}
+use Rattle.re_device.specs.Standing.{StandsSettled}
+use Rattle.re_world.proofs.Kept.{kept_on, stands_kept}
+use Rattle.re_world.specs.State.{AllPlaced, IsPlaced}
+use Rattle.re_world.specs.Opening.{AreOpened, HasOpened, IsOpened, KeepsOpening}
+
+-- while the files of one device move as in an opening, those of all devices may be what they might have been at the start, or open to it
+module _ (p : Program) (n : ℕ) (start old now : Past) (same : (f : ℕ) → IsKept n f start old) (before : KeepsOpening p start old) (goes : IsBefore (as_device n old) (as_device n now)) (still : StillOpens p n (as_device n old) (as_device n now)) where
+  kept_by : (d f : ℕ) → d ≢ n → IsKept d f old now
+  kept_by d f other = let k = elsewhere.kept_on d f (as_device n old) (as_device n now) goes still.others other in record { content = k.content; images = k.images }
+
+  keeps_own : (first second : List ℕ) → IsCrashImageAt now n 0 first → IsCrashImageAt now n 1 second → (IsCrashImageAt start n 0 first × IsCrashImageAt start n 1 second) ⊎ (AreBlank (as_device n start) × OpensTo p n first second (unopened p))
+  keeps_own first second a b = elim (still.images first second a b) [
+    | inl left ↦ inl ((same 0).images first left.0, (same 1).images second left.1)
+    | inr blank ↦ inr ((ap is_blank (sym (same 0).content) ∙ blank.0.0, ap is_blank (sym (same 1).content) ∙ blank.0.1), blank.1)
+  ]
+
+  by_device : (d : ℕ) → (d ≡ n) ⊎ (d ≢ n) → (first second : List ℕ) → IsCrashImageAt now d 0 first → IsCrashImageAt now d 1 second → (IsCrashImageAt start d 0 first × IsCrashImageAt start d 1 second) ⊎ (AreBlank (as_device d start) × OpensTo p d first second (unopened p))
+  by_device d (inl is) first second a b =
+      subst (λ x. (IsCrashImageAt start x 0 first × IsCrashImageAt start x 1 second) ⊎ (AreBlank (as_device x start) × OpensTo p x first second (unopened p))) (sym is)
+      (keeps_own first second (subst (λ x. IsCrashImageAt now x 0 first) is a) (subst (λ x. IsCrashImageAt now x 1 second) is b))
+  by_device d (inr other) first second a b = before d first second ((kept_by d 0 other).images first a) ((kept_by d 1 other).images second b)
+
+  pub keeps_more : KeepsOpening p start now
+  keeps_more d first second a b = by_device d (elim (eqb_tells d n) [ inl is ↦ inl is.1 | inr other ↦ inr other.1 ]) first second a b
+
+-- ---- the devices that are opened
+
+slice_get-left : {T : Type 0} (xs : List T) (x : T) (i : ℕ) → i < length xs → slice_get (xs ++ x ∷ []) i ≡ slice_get xs i
+slice_get-left [] x i below = absurd (omega (arith, below))
+slice_get-left (y ∷ ys) x zero below = refl
+slice_get-left (y ∷ ys) x (suc i) below = slice_get-left ys x i (omega (arith, below))
+
+slice_get-last : {T : Type 0} (xs : List T) (x : T) (i : ℕ) → i ≡ length xs → slice_get (xs ++ x ∷ []) i ≡ Some x
+slice_get-last [] x i is = ap (slice_get (x ∷ [])) is
+slice_get-last (y ∷ ys) x zero is = absurd (omega (arith, is))
+slice_get-last (y ∷ ys) x (suc i) is = slice_get-last ys x i (omega (arith, is))
+
+module _ (p : Program) (devices : List (Option DeviceState)) (start old now : Seen) (before : AreOpened p devices start old) (each : Throughout (past_in (length devices) old) (past_in (length devices) now) (StillOpens p (length devices) (past_in (length devices) old))) where
+  abbrev n : ℕ
+  n = length devices
+
+  moves : (d f : ℕ) → d ≢ n → IsKept d f (past_in 0 old) (past_in 0 now)
+  moves d f other = let k = elsewhere.kept_on d f (past_in n old) (past_in n now) each.goes_on (at_end (past_in n old) (past_in n now) (StillOpens p n (past_in n old)) each).others other in record { content = k.content; images = k.images }
+
+  rebuilt : Throughout (past_in 0 old) (past_in 0 now) (KeepsOpening p (past_in 0 start))
+  rebuilt =
+      let t = of_outside n (past_in 0 old) (past_in 0 now) (StillOpens p n (past_in n old)) refl each in
+      record {
+        goes_on = t.goes_on;
+        each = λ m first then.
+            keeps_more p n (past_in 0 start) (past_in 0 old) m (λ f. before.others n f (omega arith)) (at_end (past_in 0 start) (past_in 0 old) (KeepsOpening p (past_in 0 start)) before.moments)
+            (first.0, ap (as_device n) first.1) (t.each m first then);
+      }
+
+  pub moments_more : Throughout (past_in 0 start) (past_in 0 now) (KeepsOpening p (past_in 0 start))
+  moments_more = join (past_in 0 start) (past_in 0 old) (past_in 0 now) (KeepsOpening p (past_in 0 start)) before.moments rebuilt
+
+  module _ (device : DeviceState) (is : IsOpened p n device) (opens : OpensTo p n (content_in old n 0) (content_in old n 1) device.memory.settled) (stands : StandsSettled device (past_in n now)) where
+    opened_before : (d : ℕ) → d < n → (x : DeviceState) × (slice_get devices d ≡ Some (Some x)) × HasOpened p d start old x → (x : DeviceState) × (slice_get (devices ++ Some device ∷ []) d ≡ Some (Some x)) × HasOpened p d start now x
+    opened_before d below found =
+        let x = found.0 in (
+          x,
+          slice_get-left devices (Some device) d below ∙ found.1,
+          record {
+            is_opened = found.2.is_opened;
+            opens = found.2.opens;
+            stands = stands_kept d (past_in 0 old) (past_in 0 now) (λ f. moves d f (λ e. absurd (omega (arith, e, below)))) x.memory x.memory.settled x.generation x.journal found.2.stands;
+          },
+        )
+
+    opened_last : (d : ℕ) → d ≡ n → (x : DeviceState) × (slice_get (devices ++ Some device ∷ []) d ≡ Some (Some x)) × HasOpened p d start now x
+    opened_last d same = (
+      device,
+      slice_get-last devices (Some device) d same,
+      subst (λ k. HasOpened p k start now device) (sym same) (record {
+        is_opened = is;
+        opens =
+            subst (λ b. OpensTo p n (content_in start n 0) b device.memory.settled) (before.others n 1 (omega arith)).content
+            (subst (λ b. OpensTo p n b (content_in old n 1) device.memory.settled) (before.others n 0 (omega arith)).content opens);
+        stands = stands;
+      }),
+    )
+
+    count_is : length (devices ++ Some device ∷ []) ≡ n + 1
+    count_is = length-append devices (Some device ∷ [])
+
+    higher_by : (d : ℕ) → length (devices ++ Some device ∷ []) ≤ d → n + 1 ≤ d
+    higher_by d behind = subst (λ k. k ≤ d) count_is behind
+
+    lower : (d : ℕ) → d < length (devices ++ Some device ∷ []) → d ≢ n → d < n
+    lower d below other = elim (cases_lt d n) [
+      | inl is ↦ is
+      | inr not_below ↦ let bound = subst (λ k. d < k) count_is below in absurd (other (omega (arith, bound, not_below)))
+    ]
+
+    -- one device more is opened
+    pub one_more : AreOpened p (devices ++ Some device ∷ []) start now
+    one_more = record {
+      opened = λ d below. elim (eqb_tells d n) [
+        | inl same ↦ opened_last d same.1
+        | inr other ↦ let behind = lower d below other.1 in opened_before d behind (before.opened d behind)
+      ];
+      others = λ d f behind. let far = higher_by d behind in kept_on d f (past_in 0 start) (past_in 0 old) (past_in 0 now) (before.others d f (omega (arith, far))) (moves d f (λ e. absurd (omega (arith, far, e))));
+      moments = moments_more;
+    }
+
+-- the same, where the number of the device and the moments before and after are known by equations
+module _ (p : Program) (devices : List (Option DeviceState)) (start old now : Seen) (before : AreOpened p devices start old) (k : ℕ) (k_is : k ≡ length devices) (first last : Past) (first_is : first ≡ past_in k old) (last_is : last ≡ past_in k now) (each : Throughout first last (StillOpens p k first)) where
+  each_is : Throughout (past_in (length devices) old) (past_in (length devices) now) (StillOpens p (length devices) (past_in (length devices) old))
+  each_is =
+      subst (λ x. Throughout (past_in x old) (past_in x now) (StillOpens p x (past_in x old))) k_is
+      (subst (λ q. Throughout (past_in k old) q (StillOpens p k (past_in k old))) last_is (subst (λ q. Throughout q last (StillOpens p k q)) first_is each))
+
+  pub moments_by : Throughout (past_in 0 start) (past_in 0 now) (KeepsOpening p (past_in 0 start))
+  moments_by = moments_more p devices start old now before each_is
+
+  pub opened_by : (device : DeviceState) → IsOpened p k device → OpensTo p k (content_of first 0) (content_of first 1) device.memory.settled → StandsSettled device last → AreOpened p (devices ++ Some device ∷ []) start now
+  opened_by device is opens stands =
+      one_more p devices start old now before each_is device (subst (λ x. IsOpened p x device) k_is is)
+      (subst (λ x. OpensTo p x (content_in old x 0) (content_in old x 1) device.memory.settled) k_is (subst (λ q. OpensTo p k (content_of q 0) (content_of q 1) device.memory.settled) first_is opens))
+      (subst (λ x. StandsSettled device (past_in x now)) k_is (subst (StandsSettled device) last_is stands))
+
+-- what is known of a port's moments is known of those of the outside behind it, spoken of the port's device
+pub on_port : {T : Type 0} (seen : T → Seen) (number device device' : ℕ) (old a b last : T) (P : Past → Past → Type 0) → device ≡ number → a ≡ old → device' ≡ device → last ≡ b → P (past_in device (seen a)) (past_in device' (seen b)) → P (past_in number (seen old)) (past_in number (seen last))
+on_port seen number device device' old a b last P same_device same_old same_after same_last holds =
+    subst (λ (u : Past). P u (past_in number (seen last))) (λ i. past_in (same_device i) (seen (same_old i)))
+    (subst (P (past_in device (seen a))) (λ i. past_in ((same_after ∙ same_device) i) (seen (sym same_last i))) holds)
+
+-- ---- the list of devices
+
+-- one more stands in the list
+pub pushed_items : {E : Type 0} (old mid new : Listed (Option DeviceState)) (x : Option DeviceState) (r : Result (Unit {0}) E) (u : Unit {0}) → r ≡ Ok u → OnOk r (new ≡ record { items = mid.items ++ x ∷ []; spare = mid.spare - 1 }) → mid.items ≡ old.items → new.items ≡ old.items ++ x ∷ []
+pushed_items old mid new x (Ok v) u is pushed same = ap (λ (l : Listed (Option DeviceState)). l.items) pushed ∙ ap (λ (l : List (Option DeviceState)). l ++ x ∷ []) same
+pushed_items old mid new x (Err e) u is pushed same = absurd (cc)
+
+-- a device is placed behind others
+pub placed_more : (p : Program) (devices : List (Option DeviceState)) (device : DeviceState) → AllPlaced p devices → IsOpened p (length devices) device → AllPlaced p (devices ++ Some device ∷ [])
+placed_more p devices device all is d = elim (eqb_tells d (length devices)) [
+  | inl same ↦ subst (λ (o : Option (Option DeviceState)). IsPlaced p d (option_and_then (λ (x : Option DeviceState). x) o)) (sym (slice_get-last devices (Some device) d same.1)) (record {
+    program = ap (λ (m : DeviceMemory). m.program) is.memory;
+    number_is = ap (λ (m : DeviceMemory). m.device) is.memory ∙ sym same.1;
+  })
+  | inr other ↦ elim (cases_lt d (length devices)) [
+    | inl below ↦ subst (λ (o : Option (Option DeviceState)). IsPlaced p d (option_and_then (λ (x : Option DeviceState). x) o)) (sym (slice_get-left devices (Some device) d below)) (all d)
+    | inr above ↦
+        let far = other.1 in
+        subst (λ (o : Option (Option DeviceState)). IsPlaced p d (option_and_then (λ (x : Option DeviceState). x) o)) (sym (slice_get_past (devices ++ Some device ∷ []) d (subst (λ n. n ≤ d) (sym (length-append devices (Some device ∷ []))) (beyond d (length devices) above far)))) tt
+  ]
+]
+  where
+    beyond : (d n : ℕ) → n ≤ d → d ≢ n → n + 1 ≤ d
+    beyond d n above other = elim (cases_lt n d) [
+      | inl is ↦ omega (arith, is)
+      | inr not_above ↦ absurd (other (omega (arith, above, not_above)))
+    ]
+
+-- at the start no device is opened
+pub none_opened : (p : Program) (s : Seen) → AreOpened p [] s s
+none_opened p s = record {
+  opened = λ d below. absurd (omega (arith, below));
+  others = λ d f behind. record { content = refl; images = λ file is. is };
+  moments = no_step (past_in 0 s) (past_in 0 s) (KeepsOpening p (past_in 0 s)) refl (λ d first second a b. inl (a, b));
+}

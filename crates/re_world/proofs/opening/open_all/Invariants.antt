@@ -1,0 +1,12 @@
+-- What the loop keeps: so many devices are opened as it has gone through.
+use Rattle.std.proofs.Common.{◌≡◌, length, true}
+use Rattle.re_world.specs.Opening.{AreOpened}
+use Rattle.re_world.specs.State.{AllPlaced}
+use Rattle.re_world.proofs.opening.open_all.Given as goal
+
+abbrev pub invariant-loop-number : goal.invariant-loop-number
+invariant-loop-number g l = record {
+  count : length l.devices.items ≡ l.number;
+  placed : AllPlaced l.p l.devices.items;
+  opened : g.O.Outside.tells ≡ true → AreOpened l.p l.devices.items (g.O.Outside.seen l.fn.out) (g.O.Outside.seen l.out);
+}

@@ -1,0 +1,86 @@
+//! The world of a session: devices and packets.
+ghost use Rattle.std.specs.Prelude.{◌≡◌, ◌<◌, ◌≤◌, ◌+◌, ℕ, List, length, true, false, Some, None, Err, IfOk, OnOk};
+ghost use Rattle.std.specs.Option.{option_copied};
+ghost use Rattle.re_outside.specs.Moment.{Throughout};
+ghost use Rattle.re_outside.specs.Outside.{content_in};
+ghost use Rattle.re_outside.specs.Port.{past_in};
+ghost use Rattle.re_outside.specs.Trace.{IsJointImage};
+ghost use Rattle.re_print.specs.Canonical.{program_text};
+ghost use Rattle.re_terms.specs.Admission.{device_count};
+ghost use Rattle.re_terms.specs.DeviceWorlds.{start_world};
+ghost use Rattle.re_terms.specs.Programs.{IsProgram};
+ghost use Rattle.re_terms.specs.Runs.{PlainState};
+ghost use Rattle.re_terms.specs.Updates.{Update};
+ghost use Rattle.re_world.specs.Images.{Restores};
+ghost use Rattle.re_world.specs.Standing.{IsWorldOf};
+ghost use Rattle.re_world.specs.Starting.{StartsAt};
+ghost use Rattle.re_world.specs.State.{device_in};
+
+use crate::opening::open_all;
+use re_compact::OpenFault;
+use re_device::Device;
+use re_outside::{Bytes, Outside};
+use re_terms::{Program, Seq, Shape};
+use std::alloc::Global;
+use std::marker::Model;
+
+/// The devices of a program, each over its own two files, and the packets that they made.
+///
+/// A device is down from its crash to its restart: then nothing of it is in memory. Packets are kept as bytes, and counted from 0.
+/// docs/SESSION.md has the commands and their answers.
+#[derive(Drop)]
+pub struct World {
+    pub(crate) alloc: Global,
+    pub(crate) program: Program,
+    pub(crate) shape: Shape,
+    pub(crate) devices: Seq<Option<Device>>,
+    pub(crate) packets: Seq<Bytes>,
+}
+
+impl Model for World {
+    ghost use Rattle.std.specs.Coded.{codes};
+    ghost use Rattle.re_terms.specs.contracts.expr.Expr as expr;
+    ghost use Rattle.re_world.specs.State.{WorldState};
+
+    ghost Value = { WorldState };
+
+    ghost coded = { Prim.hlevel (codes, expr.the_row.coded) };
+
+    ghost use Rattle.re_world.specs.State.{IsKept, seen_of};
+
+    ghost view = { seen_of };
+
+    ghost invariant = { IsKept };
+}
+
+impl World {
+    /// Opens the devices of a program over their files, in order. The refusal is that of the first device that can't be opened, with its number.
+    pub fn new<O: Outside>(alloc: Global, out: &mut O, p: Program) -> Result<World, (u8, OpenFault)>
+        requires program { IsProgram p }
+        requires text { length (program_text p) ≤ 65536 }
+        ensures program { IfOk result (λ v. v.program ≡ p) }
+        // The files stand for a world, and this is it. A stop at any moment leaves files that stand for it.
+        ensures world { (base : ℕ → PlainState) (base_number : ℕ → ℕ) (log : List Update) → O.tells ≡ true → StartsAt p base base_number log (past_in 0 (O.seen out.old)) → IfOk result (λ v. IsWorldOf p (start_world p base base_number log) v (O.seen out.new)) }
+        ensures restores { (base : ℕ → PlainState) (base_number : ℕ → ℕ) (log : List Update) → O.tells ≡ true → StartsAt p base base_number log (past_in 0 (O.seen out.old)) → Throughout (past_in 0 (O.seen out.old)) (past_in 0 (O.seen out.new)) (λ now. (files : ℕ → ℕ → List ℕ) → IsJointImage now files → Restores p (start_world p base base_number log) None files) }
+    {
+        let devices = open_all(alloc, out, &p)?;
+        let Ok(shape) = Shape::of(alloc, &p) else {
+            return Err((0, OpenFault::Memory));
+        };
+        Ok(World {
+            alloc,
+            program: p,
+            shape,
+            devices,
+            packets: Seq::new(alloc),
+        })
+    }
+
+    /// The device with this number, none where it is down.
+    pub fn device(&self, device: u8) -> Option<&Device>
+        requires { device < device_count self.now.program.decls.items }
+        ensures { option_copied result ≡ device_in self.now device }
+    {
+        self.devices.as_slice()[device as usize].as_ref()
+    }
+}
