@@ -1,16 +1,17 @@
--- What a stop leaves of the files while they are opened.
-use Rattle.std.proofs.Common.{◌≡◌, inl, inr, ℕ, List, [], refl, ap, subst, ◌∙◌}
+-- What a stop leaves of the files while they are opened, and what they open to behind it.
+use Rattle.std.proofs.Common.{◌≡◌, inl, inr, ℕ, ◌<◌, List, [], refl, ap, subst, sym, ◌∙◌}
 use Rattle.re_outside.specs.Frame as frame
 use Rattle.re_outside.specs.Frame.{HasStoreFrame, StoreFrame}
-use Rattle.re_outside.specs.Moment.{Throughout}
-use Rattle.re_outside.specs.Trace.{Past, IsBefore, IsCrashImageAt, content_of, elsewhere_on}
+use Rattle.re_outside.specs.Moment.{IsKept, Throughout}
+use Rattle.re_outside.specs.Trace.{Past, IsBefore, IsCrashImageAt, IsCrashImageOf, content_at, content_of, elsewhere_on}
 use Rattle.re_outside.proofs.Moments.{at_end, join, no_step}
 use Rattle.re_compact.specs.Finding.{KeepsFiles}
 use Rattle.re_compact.specs.Pair.{Holds, IsOldOrNew, StandsIn}
 use Rattle.re_compact.proofs.Standing.{at_rest}
 use Rattle.re_journal.specs.declared.journal.Journal.{Journal}
-use Rattle.re_record.specs.Restoring.{unopened}
+use Rattle.re_record.specs.Restoring.{Opened, unopened}
 use Rattle.re_record.specs.Stores.{OpensTo}
+use Rattle.re_record.proofs.StoreLaws.{one_opening}
 use Rattle.re_terms.specs.Programs.{IsProgram}
 use Rattle.re_terms.specs.declared.program.Program.{Program}
 use Rattle.re_restore.specs.Opening.{AreBlank, StillOpens, start_snapshot}
@@ -34,14 +35,15 @@ keeps_still p device old now on keeps = record {
 pub found_still : (p : Program) (device : ℕ) (old new : Past) → Throughout old new (KeepsFiles old) → Throughout old new (StillOpens p device old)
 found_still p device old new t = record { goes_on = t.goes_on; each = λ now on behind. keeps_still p device old now on (t.each now on behind) }
 
-module _ (p : Program) (device : ℕ) (old mid : Past) (is : IsProgram p) (blank : AreBlank old) (on : IsBefore old mid) (keeps : KeepsFiles old mid) (file : ℕ) where
-  opens_still : (first second : List ℕ) (f : StoreFrame) → HasStoreFrame first second f → IsOldOrNew frame.Blank file (start_snapshot p device) f → OpensTo p device first second (unopened p)
-  opens_still first second f has (inl same) = opens_blank p device first second (subst (HasStoreFrame first second) same has)
-  opens_still first second f has (inr same) = opens_store p device file first second (start_snapshot p device) [] (unopened p) (subst (HasStoreFrame first second) same has) (start_comes p device is)
+-- two files that are blank still, or hold the start alone, open to the start
+opens_still : (p : Program) (device file : ℕ) (first second : List ℕ) (f : StoreFrame) → IsProgram p → HasStoreFrame first second f → IsOldOrNew frame.Blank file (start_snapshot p device) f → OpensTo p device first second (unopened p)
+opens_still p device file first second f is has (inl same) = opens_blank p device first second (subst (HasStoreFrame first second) same has)
+opens_still p device file first second f is has (inr same) = opens_store p device file first second (start_snapshot p device) [] (unopened p) (subst (HasStoreFrame first second) same has) (start_comes p device is)
 
+module _ (p : Program) (device : ℕ) (old mid : Past) (is : IsProgram p) (blank : AreBlank old) (on : IsBefore old mid) (keeps : KeepsFiles old mid) (file : ℕ) where
   holds_still : (now : Past) → Holds (IsOldOrNew frame.Blank file (start_snapshot p device)) mid now → StillOpens p device old now
   holds_still now h = record {
-    images = λ first second one two. let found = h.images first second one two in inr (blank, opens_still first second found.0 found.1 found.2);
+    images = λ first second one two. let found = h.images first second one two in inr (blank, opens_still p device file first second found.0 is found.1 found.2);
     others = subst (λ d. elsewhere_on d now.trace ≡ elsewhere_on d mid.trace) (same_device old mid on) h.others ∙ keeps.others;
   }
 
@@ -57,3 +59,24 @@ blank_still p device old mid new file is has found laid =
 -- where nothing is laid
 pub not_laid : (journal : Journal) (now : Past) (file : ℕ) (snapshot : List ℕ) → StandsIn journal frame.Blank now → Throughout now now (Holds (IsOldOrNew frame.Blank file snapshot) now)
 not_laid journal now file snapshot stands = no_step now now (Holds (IsOldOrNew frame.Blank file snapshot) now) refl (at_rest frame.Blank (IsOldOrNew frame.Blank file snapshot) now stands.rests (inl refl))
+
+-- ---- what the files open to as they read
+
+-- a file that was kept reads as it did
+reads_as_before : (old mid : Past) (f : ℕ) → mid.device ≡ old.device → IsKept old.device f old mid → content_of mid f ≡ content_of old f
+reads_as_before old mid f same kept = ap (λ d. content_at mid d f) same ∙ kept.content
+
+-- where nothing was laid they open as before
+pub found_reads : (p : Program) (device : ℕ) (old mid : Past) (o : Opened) → mid.device ≡ old.device → Throughout old mid (KeepsFiles old) → OpensTo p device (content_of old 0) (content_of old 1) o → OpensTo p device (content_of mid 0) (content_of mid 1) o
+found_reads p device old mid o same t opens =
+    let kept = at_end old mid (KeepsFiles old) t in
+    let second = subst (λ (b : List ℕ). OpensTo p device (content_of old 0) b o) (sym (reads_as_before old mid 1 same kept.second)) opens in
+    subst (λ (a : List ℕ). OpensTo p device a (content_of mid 1) o) (sym (reads_as_before old mid 0 same kept.first)) second
+
+-- two blank files opened to the start, and so do they wherever the laying of the start ended
+pub blank_reads : (p : Program) (device file : ℕ) (old mid new : Past) (o : Opened) → IsProgram p → device < 256 → AreBlank old → Throughout mid new (Holds (IsOldOrNew frame.Blank file (start_snapshot p device)) mid)
+    → IsCrashImageOf new 0 (content_of new 0) → IsCrashImageOf new 1 (content_of new 1) → OpensTo p device (content_of old 0) (content_of old 1) o → OpensTo p device (content_of new 0) (content_of new 1) o
+blank_reads p device file old mid new o is small blank laid first second opens =
+    let same = one_opening p device (content_of old 0) (content_of old 1) (unopened p) o is small (opens_blank p device (content_of old 0) (content_of old 1) blank) opens in
+    let held = (at_end mid new (Holds (IsOldOrNew frame.Blank file (start_snapshot p device)) mid) laid).images (content_of new 0) (content_of new 1) first second in
+    subst (OpensTo p device (content_of new 0) (content_of new 1)) same (opens_still p device file (content_of new 0) (content_of new 1) held.0 is held.1 held.2)

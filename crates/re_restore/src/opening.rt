@@ -13,7 +13,7 @@ ghost use Rattle.re_compact.specs.declared.fault.OpenFault.{OpenFault as TheFaul
 ghost use Rattle.re_compact.specs.declared.fault.OpenFault.TheVariants.{BadStore, Disk as DiskRefusal, Memory as MemoryRefusal, OtherProgram};
 ghost use Rattle.re_print.specs.Canonical.{program_text};
 ghost use Rattle.re_prop.specs.Caching.{signal_words};
-ghost use Rattle.re_record.specs.Restoring.{unopened};
+ghost use Rattle.re_record.specs.Restoring.{Opened, unopened};
 ghost use Rattle.re_record.specs.Snapshots.{HasOtherText};
 ghost use Rattle.re_record.specs.Stores.{ComesTo, HasStore, OpensTo, Stored};
 ghost use Rattle.re_restore.specs.Opening.{HasPlannedSteps, HasRestoreCause, HasRestoreSteps, IsAnswerTo, IsRestoredOf, StandsOpened, StillOpens, StopsIn, lay_steps, opened_as, start_snapshot};
@@ -235,6 +235,9 @@ pub fn restore<D: Disk>(
     ensures other { D.tells → result ≡ Err OtherProgram → HasStore p.now device (content_of (D.past disk.old) 0) (content_of (D.past disk.old) 1) Stored.OtherProgram }
     // What the files hold decides the answer, unless the disk fails or memory runs out.
     ensures decided { (stored : Stored) → D.tells → HasStore p.now device (content_of (D.past disk.old) 0) (content_of (D.past disk.old) 1) stored → IsAnswerTo p.now device stored result }
+
+    // Whatever it answers, the files then read as a store of the same state.
+    ensures reads { (o : Opened) → D.tells → OpensTo p.now device (content_of (D.past disk.old) 0) (content_of (D.past disk.old) 1) o → OpensTo p.now device (content_of (D.past disk.new) 0) (content_of (D.past disk.new) 1) o }
 
     ensures cause { HasRestoreCause (D.faults disk.old) (D.faults disk.new) result }
     ensures device { (D.past disk.new).device ≡ (D.past disk.old).device }

@@ -23,7 +23,7 @@ use Rattle.re_restore.specs.declared.opening.Restored.{Restored}
 use Rattle.re_restore.proofs.Decided.{answers, finds_no_program, not_bad, not_other}
 use Rattle.re_restore.proofs.RestoreSteps.{blank_steps, not_found, own_plan, store_steps}
 use Rattle.re_restore.proofs.Laid.{one_fits, stands_anew, start_comes}
-use Rattle.re_restore.proofs.StillOpening.{blank_still, found_still}
+use Rattle.re_restore.proofs.StillOpening.{blank_reads, blank_still, found_reads, found_still}
 use Rattle.re_restore.proofs.Opened.{bad_frame, bad_store, opens_blank, opens_store, other_store}
 use Rattle.re_restore.proofs.opening.restore.Goals as goal
 
@@ -177,3 +177,20 @@ returns-in-Store-clause-decided g c stored tells has =
     (returns-in-Store-clause-opened g c tells)
     (λ file at. returns-in-Store-clause-bad g c file at tells)
     (λ same. other_store c.args.p.now c.args.device c.in-Store.journal.file a b c.in-Store.snapshot.items (all_bytes c.in-Store.bodies.items) there (c.open_found.ensures.other same))
+
+pub returns-in_err-journal-clause-reads : goal.returns-in_err-journal-clause-reads
+returns-in_err-journal-clause-reads g c o tells opens =
+    found_reads c.args.p.now c.args.device (g.D.Disk.past c.args.disk.now) (g.D.Disk.past c.find_store.new.disk) o c.find_store.ensures.device (c.find_store.ensures.each_moment tells) opens
+
+pub returns-in-Blank-clause-reads : goal.returns-in-Blank-clause-reads
+returns-in-Blank-clause-reads g c o tells opens =
+    let old = g.D.Disk.past c.args.disk.now in
+    let mid = g.D.Disk.past c.find_store.new.disk in
+    let there = subst (λ found. StandsIn (journal_found found) (frame_found found) mid) c.in-Blank.is (c.in_ok-journal.ensures.stands tells) in
+    let has = subst (λ found. HasStoreFrame (content_of old 0) (content_of old 1) (frame_found found)) c.in-Blank.is (c.in_ok-journal.ensures.frame tells) in
+    blank_reads c.args.p.now c.args.device (other_file c.in-Blank.journal.file) old mid (g.D.Disk.past c.open_blank.new.disk) o c.requires.program (omega (arith, c.ranges.device.fits)) has (c.open_blank.ensures.each_moment tells there)
+    (g.met.D.Disk.reads_left c.open_blank.new.disk 0 tells) (g.met.D.Disk.reads_left c.open_blank.new.disk 1 tells) opens
+
+pub returns-in-Store-clause-reads : goal.returns-in-Store-clause-reads
+returns-in-Store-clause-reads g c o tells opens =
+    found_reads c.args.p.now c.args.device (g.D.Disk.past c.args.disk.now) (g.D.Disk.past c.find_store.new.disk) o c.find_store.ensures.device (c.find_store.ensures.each_moment tells) opens
