@@ -1,6 +1,6 @@
 -- One device more is opened behind others.
-use Rattle.std.proofs.Common.{◌≡◌, ◌⊎◌, inl, inr, ◌<◌, ◌≤◌, ◌+◌, ◌-◌, ◌++◌, ◌∷◌, [], ℕ, zero, suc, List, Option, Some, Result, Ok, Err, length, refl, sym, ap, subst, ◌∙◌, arith}
-use Rattle.std.specs.Prelude.{◌≢◌, OnOk, option_and_then, slice_get}
+use Rattle.std.proofs.Common.{◌≡◌, ◌⊎◌, inl, inr, ◌<◌, ◌≤◌, ◌+◌, ◌-◌, ◌++◌, ◌∷◌, [], ℕ, zero, suc, Bool, true, List, Option, Some, Result, Ok, Err, length, refl, sym, ap, subst, ◌∙◌, arith}
+use Rattle.std.specs.Prelude.{◌≢◌, if◌then◌else◌, OnOk, option_and_then, slice_get}
 use Rattle.std.proofs.lemmas.Bool.{cases_lt}
 use Rattle.std.proofs.lemmas.List.{length-append}
 use Rattle.std.proofs.lemmas.Option.{slice_get_past}
@@ -10,7 +10,7 @@ use Rattle.re_outside.proofs.Moments.{at_end, join, no_step, of_outside}
 use Rattle.re_outside.specs.Frame.{is_blank}
 use Rattle.re_outside.specs.Moment.{IsKept, Throughout}
 use Rattle.re_outside.specs.Outside.{Seen, content_in}
-use Rattle.re_outside.specs.Port.{past_in}
+use Rattle.re_outside.specs.Port.{Rest, past_in, rest_in}
 use Rattle.re_outside.specs.Trace.{Past, IsBefore, IsCrashImageAt, as_device, content_of}
 use Rattle.re_record.specs.Restoring.{unopened}
 use Rattle.re_record.specs.Stores.{OpensTo}
@@ -67,9 +67,9 @@ module _ (p : Program) (devices : List (Option DeviceState)) (start old now : Se
       let t = of_outside n (past_in 0 old) (past_in 0 now) (StillOpens p n (past_in n old)) refl each in
       record {
         goes_on = t.goes_on;
-        each = λ m first then.
+        each = λ m first last.
             keeps_more p n (past_in 0 start) (past_in 0 old) m (λ f. before.others n f (omega arith)) (at_end (past_in 0 start) (past_in 0 old) (KeepsOpening p (past_in 0 start)) before.moments)
-            (first.0, ap (as_device n) first.1) (t.each m first then);
+            (first.0, ap (as_device n) first.1) (t.each m first last);
       }
 
   pub moments_more : Throughout (past_in 0 start) (past_in 0 now) (KeepsOpening p (past_in 0 start))
@@ -140,11 +140,21 @@ module _ (p : Program) (devices : List (Option DeviceState)) (start old now : Se
       (subst (λ x. OpensTo p x (content_in old x 0) (content_in old x 1) device.memory.settled) k_is (subst (λ q. OpensTo p k (content_of q 0) (content_of q 1) device.memory.settled) first_is opens))
       (subst (λ x. StandsSettled device (past_in x now)) k_is (subst (StandsSettled device) last_is stands))
 
+-- what is known of what is seen of a port's device is known of it at the outside behind the port
+pub on_outside : {T A : Type 0} (seen : T → Seen) (see : ℕ → Seen → A) (number device device' : ℕ) (old a b last : T) (P : A → A → Type 0) → device ≡ number → a ≡ old → device' ≡ device → last ≡ b → P (see device (seen a)) (see device' (seen b)) → P (see number (seen old)) (see number (seen last))
+on_outside {T} {A} seen see number device device' old a b last P same_device same_old same_after same_last holds =
+    subst (λ (u : A). P u (see number (seen last))) (λ i. see (same_device i) (seen (same_old i)))
+    (subst (P (see device (seen a))) (λ i. see ((same_after ∙ same_device) i) (seen (sym same_last i))) holds)
+
 -- what is known of a port's moments is known of those of the outside behind it, spoken of the port's device
 pub on_port : {T : Type 0} (seen : T → Seen) (number device device' : ℕ) (old a b last : T) (P : Past → Past → Type 0) → device ≡ number → a ≡ old → device' ≡ device → last ≡ b → P (past_in device (seen a)) (past_in device' (seen b)) → P (past_in number (seen old)) (past_in number (seen last))
-on_port seen number device device' old a b last P same_device same_old same_after same_last holds =
-    subst (λ (u : Past). P u (past_in number (seen last))) (λ i. past_in (same_device i) (seen (same_old i)))
-    (subst (P (past_in device (seen a))) (λ i. past_in ((same_after ∙ same_device) i) (seen (sym same_last i))) holds)
+on_port seen number device device' old a b last P same_device same_old same_after same_last holds = on_outside seen past_in number device device' old a b last P same_device same_old same_after same_last holds
+
+-- no call of a disk takes input
+pub left_kept : (name name' device device' : ℕ) (old now : Seen) → rest_in name' device' now ≡ rest_in name device old → old.told ≡ true → now.told ≡ true → now.left ≡ old.left
+left_kept name name' device device' old now same told told' =
+    let e : (if now.told then now.left else []) ≡ (if old.told then old.left else []) = ap (λ (r : Rest). r.left) same in
+    sym (ap (λ (t : Bool). if t then now.left else []) told') ∙ e ∙ ap (λ (t : Bool). if t then old.left else []) told
 
 -- ---- the list of devices
 

@@ -11,7 +11,8 @@ ghost use Rattle.re_terms.specs.Programs.{IsProgram};
 ghost use Rattle.re_compact.specs.declared.fault.OpenFault.TheVariants.{BadStore, OtherProgram};
 ghost use Rattle.re_device.specs.Standing.{StandsSettled};
 ghost use Rattle.re_restore.specs.Opening.{HasRestoreCause, StillOpens};
-ghost use Rattle.re_outside.specs.Port.{past_in};
+ghost use Rattle.re_outside.specs.Port.{disk_faults, other_faults, past_in};
+ghost use Rattle.re_record.specs.Restoring.{Opened};
 ghost use Rattle.re_world.specs.Opening.{AreOpened, IsOpened, KeepsOpening};
 ghost use Rattle.re_world.specs.State.{AllPlaced};
 
@@ -40,6 +41,8 @@ pub fn open_device<D: Disk>(
     ensures settled { D.tells → IfOk result (λ d. OpensTo p.now number (content_of (D.past disk.old) 0) (content_of (D.past disk.old) 1) d.memory.settled) }
     ensures stands { D.tells → IfOk result (λ d. StandsSettled d (D.past disk.new)) }
     ensures each_moment { D.tells → Throughout (D.past disk.old) (D.past disk.new) (StillOpens p.now number (D.past disk.old)) }
+    // Whatever it answers, the files then read as a store of the same state.
+    ensures reads { (o : Opened) → D.tells → OpensTo p.now number (content_of (D.past disk.old) 0) (content_of (D.past disk.old) 1) o → OpensTo p.now number (content_of (D.past disk.new) 0) (content_of (D.past disk.new) 1) o }
     ensures bad { (file at : ℕ) → D.tells → result ≡ Err (BadStore file at) → HasStore p.now number (content_of (D.past disk.old) 0) (content_of (D.past disk.old) 1) (stores.Bad file at) }
     ensures other { D.tells → result ≡ Err OtherProgram → HasStore p.now number (content_of (D.past disk.old) 0) (content_of (D.past disk.old) 1) stores.OtherProgram }
     ensures cause { HasRestoreCause (D.faults disk.old) (D.faults disk.new) result }
@@ -83,6 +86,13 @@ fn open_outside<O: Outside>(
     ensures settled { O.tells ≡ true → IfOk result (λ d. OpensTo p.now number (content_in (O.seen out.old) number 0) (content_in (O.seen out.old) number 1) d.memory.settled) }
     ensures stands { O.tells ≡ true → IfOk result (λ d. StandsSettled d (past_in number (O.seen out.new))) }
     ensures each_moment { O.tells ≡ true → Throughout (past_in number (O.seen out.old)) (past_in number (O.seen out.new)) (StillOpens p.now number (past_in number (O.seen out.old))) }
+    // Whatever it answers, the files then read as a store of the same state.
+    ensures reads { (o : Opened) → O.tells ≡ true → OpensTo p.now number (content_in (O.seen out.old) number 0) (content_in (O.seen out.old) number 1) o → OpensTo p.now number (content_in (O.seen out.new) number 0) (content_in (O.seen out.new) number 1) o }
+    ensures bad { (file at : ℕ) → O.tells ≡ true → result ≡ Err (BadStore file at) → HasStore p.now number (content_in (O.seen out.old) number 0) (content_in (O.seen out.old) number 1) (stores.Bad file at) }
+    ensures other { O.tells ≡ true → result ≡ Err OtherProgram → HasStore p.now number (content_in (O.seen out.old) number 0) (content_in (O.seen out.old) number 1) stores.OtherProgram }
+    ensures cause { HasRestoreCause (disk_faults number (O.seen out.old)) (disk_faults number (O.seen out.new)) result }
+    ensures others { other_faults number (O.seen out.new) ≡ other_faults number (O.seen out.old) }
+    ensures left { O.tells ≡ true → (O.seen out.new).left ≡ (O.seen out.old).left }
 {
     let mut port = Port::new(out, number);
     open_device(alloc, &mut port, p, number)
