@@ -1,27 +1,31 @@
 -- One device more is opened behind others.
-use Rattle.std.proofs.Common.{◌≡◌, ◌⊎◌, inl, inr, ◌<◌, ◌≤◌, ◌+◌, ◌-◌, ◌++◌, ◌∷◌, [], ℕ, zero, suc, Bool, true, List, Option, Some, Result, Ok, Err, length, refl, sym, ap, subst, ◌∙◌, arith}
-use Rattle.std.specs.Prelude.{◌≢◌, if◌then◌else◌, OnOk, option_and_then, slice_get}
+use Rattle.std.proofs.Common.{◌≡◌, ◌⊎◌, inl, inr, ◌<◌, ◌≤◌, ◌+◌, ◌-◌, ◌++◌, ◌∷◌, [], ℕ, zero, suc, Bool, true, false, List, Option, Some, Result, Ok, Err, length, refl, sym, ap, subst, ◌∙◌, arith}
+use Rattle.std.specs.Prelude.{◌≢◌, ◌==◌, if◌then◌else◌, OnOk, option_and_then, slice_get}
+use Rattle.std.specs.Result.{IsErrAnd}
 use Rattle.std.proofs.lemmas.Bool.{cases_lt}
 use Rattle.std.proofs.lemmas.List.{length-append}
 use Rattle.std.proofs.lemmas.Option.{slice_get_past}
 use Rattle.std.proofs.lemmas.Bool.Decides.{eqb_tells}
+use Rattle.re_compact.specs.declared.fault.OpenFault.{OpenFault}
+use Rattle.re_compact.specs.declared.fault.OpenFault.TheVariants.{BadStore, Disk, Memory, OtherProgram}
 use Rattle.re_outside.proofs.Elsewhere as elsewhere
 use Rattle.re_outside.proofs.Moments.{at_end, join, no_step, of_outside}
 use Rattle.re_outside.specs.Frame.{is_blank}
 use Rattle.re_outside.specs.Moment.{IsKept, Throughout}
-use Rattle.re_outside.specs.Outside.{Seen, content_in}
-use Rattle.re_outside.specs.Port.{Rest, past_in, rest_in}
+use Rattle.re_outside.specs.Outside as counts
+use Rattle.re_outside.specs.Outside.{FaultKind, Faults, Rose, Seen, content_in, is_kind}
+use Rattle.re_outside.specs.Port.{Rest, disk_faults, other_faults, past_in, rest_in}
 use Rattle.re_outside.specs.Trace.{Past, IsBefore, IsCrashImageAt, as_device, content_of}
 use Rattle.re_record.specs.Restoring.{unopened}
-use Rattle.re_record.specs.Stores.{OpensTo}
-use Rattle.re_restore.specs.Opening.{AreBlank, StillOpens}
+use Rattle.re_record.specs.Stores.{HasStore, OpensTo, Stored}
+use Rattle.re_restore.specs.Opening.{AreBlank, HasRestoreCause, StillOpens}
 use Rattle.re_terms.specs.Listed.{Listed}
 use Rattle.re_terms.specs.declared.program.Program.{Program}
 use Rattle.re_device.specs.Device.{DeviceMemory, DeviceState}
 use Rattle.re_device.specs.Standing.{StandsSettled}
 use Rattle.re_world.proofs.Kept.{kept_on, stands_kept}
 use Rattle.re_world.specs.State.{AllPlaced, IsPlaced}
-use Rattle.re_world.specs.Opening.{AreOpened, HasOpened, IsOpened, KeepsOpening}
+use Rattle.re_world.specs.Opening.{AreOpened, HasOpened, HasOpeningCause, IsOpened, KeepsOpening, OpenBefore}
 
 -- while the files of one device move as in an opening, those of all devices may be what they might have been at the start, or open to it
 module _ (p : Program) (n : ℕ) (start old now : Past) (same : (f : ℕ) → IsKept n f start old) (before : KeepsOpening p start old) (goes : IsBefore (as_device n old) (as_device n now)) (still : StillOpens p n (as_device n old) (as_device n now)) where
@@ -191,3 +195,82 @@ none_opened p s = record {
   others = λ d f behind. record { content = refl; images = λ file is. is };
   moments = no_step (past_in 0 s) (past_in 0 s) (KeepsOpening p (past_in 0 s)) refl (λ d first second a b. inl (a, b));
 }
+
+-- ---- why one is refused
+
+-- where no count of a device has changed, nor any other, none has
+pub all_faults : (n : ℕ) (old now : Seen) → disk_faults n now ≡ disk_faults n old → other_faults n now ≡ other_faults n old → now.faults ≡ old.faults
+all_faults n old now own others = λ i kind. by_kind kind i
+  where
+    by_test : (d : ℕ) → (n == d) ≡ false → now.faults (counts.Disk d) ≡ old.faults (counts.Disk d)
+    by_test d e =
+        let h : (if n == d then 0 else now.faults (counts.Disk d)) ≡ (if n == d then 0 else old.faults (counts.Disk d)) = ap (λ (f : Faults). f (counts.Disk d)) others in
+        sym (ap (λ (t : Bool). if t then 0 else now.faults (counts.Disk d)) e) ∙ h ∙ ap (λ (t : Bool). if t then 0 else old.faults (counts.Disk d)) e
+
+    by_kind : (kind : FaultKind) → now.faults kind ≡ old.faults kind
+    by_kind counts.Input = ap (λ (f : Faults). f counts.Input) others
+    by_kind counts.Output = ap (λ (f : Faults). f counts.Output) others
+    by_kind (counts.Disk d) = elim (eqb_tells n d) [
+      | inl same ↦ subst (λ (k : ℕ). now.faults (counts.Disk k) ≡ old.faults (counts.Disk k)) same.1 own
+      | inr other ↦ by_test d other.0
+    ]
+
+-- the refusal of one device is that of the opening, where no call failed before
+pub caused : (T U : Type 0) (number : ℕ) (start old now : Seen) (fault : OpenFault) → old.faults ≡ start.faults → HasRestoreCause {T = T} (disk_faults number old) (disk_faults number now) (Err fault) → other_faults number now ≡ other_faults number old → HasOpeningCause {T = U} start now (Err (number, fault))
+caused T U number start old now Memory same cause others = all_faults number old now cause others ∙ same
+caused T U number start old now Disk same cause others =
+    (subst (λ (f : Faults). Rose (f (counts.Disk number)) (disk_faults number now)) same cause, others ∙ ap {B = Faults} (λ (f : Faults) (kind : FaultKind). if is_kind (counts.Disk number) kind then 0 else f kind) same)
+caused T U number start old now (BadStore file at) same cause others = all_faults number old now cause others ∙ same
+caused T U number start old now OtherProgram same cause others = all_faults number old now cause others ∙ same
+
+module _ (p : Program) (devices : List (Option DeviceState)) (start old : Seen) (are : AreOpened p devices start old) where
+  -- each of those that are opened opens, as its files read at the start
+  pub open_before : (n : ℕ) → length devices ≡ n → OpenBefore p n start
+  open_before n is d below = let found = are.opened d (subst (λ (k : ℕ). d < k) (sym is) below) in (found.0.memory.settled, found.2.opens)
+
+  -- what the files of the next device are, they were at the start
+  pub held_before : (d : ℕ) (stored : Stored) → length devices ≡ d → HasStore p (length devices) (content_in old (length devices) 0) (content_in old (length devices) 1) stored → HasStore p d (content_in start d 0) (content_in start d 1) stored
+  held_before d stored is has =
+      let n = length devices in
+      subst (λ (k : ℕ). HasStore p k (content_in start k 0) (content_in start k 1) stored) is
+      (subst (λ (a : List ℕ). HasStore p n a (content_in start n 1) stored) (are.others n 0 (omega arith)).content
+      (subst (λ (b : List ℕ). HasStore p n (content_in old n 0) b stored) (are.others n 1 (omega arith)).content has))
+
+-- the device and the fault of a refusal
+pub same_refusal : {T : Type 0} (n d : ℕ) (fault other : OpenFault) → ◌≡◌ {A = Result T (ℕ × OpenFault)} (Err (n, fault)) (Err (d, other)) → (n ≡ d) × (fault ≡ other)
+same_refusal {T} n d fault other is =
+    let pair : ◌≡◌ {A = ℕ × OpenFault} (n, fault) (d, other) = cc in
+    (ap (λ (x : ℕ × OpenFault). x.0) pair, ap (λ (x : ℕ × OpenFault). x.1) pair)
+
+-- the fault of a call that is handed on
+pub handed_on : {T E : Type 0} (r : Result T E) (e f : E) → IsErrAnd r (λ x. x ≡ e) → r ≡ Err f → e ≡ f
+handed_on (Ok x) e f is same = absurd is
+handed_on (Err y) e f is same = sym is ∙ (cc)
+
+-- its cause is handed on with it
+pub cause_handed : (T : Type 0) {U : Type 0} (r : Result U OpenFault) (e : OpenFault) (before now : ℕ) → IsErrAnd r (λ x. x ≡ e) → HasRestoreCause {T = T} before now (Err e) → HasRestoreCause {T = U} before now r
+cause_handed T {U} (Ok x) e before now is h = absurd is
+cause_handed T {U} (Err f) e before now is h = by_fault f (subst (λ (x : OpenFault). HasRestoreCause {T = T} before now (Err x)) (sym is) h)
+  where
+    by_fault : (f : OpenFault) → HasRestoreCause {T = T} before now (Err f) → HasRestoreCause {T = U} before now (Err f)
+    by_fault Memory h = h
+    by_fault Disk h = h
+    by_fault (BadStore file at) h = h
+    by_fault OtherProgram h = h
+
+-- the refusal of a result that hands one on
+pub is_refused : {T E : Type 0} (r : Result T E) (e : E) → IsErrAnd r (λ x. x ≡ e) → r ≡ Err e
+is_refused (Ok x) e is = absurd is
+is_refused (Err y) e is = ap Err is
+
+-- a refusal for a disk has the disk's cause
+pub for_disk : {T : Type 0} (r : Result T (ℕ × OpenFault)) (d : ℕ) (old now : Seen) → HasOpeningCause old now r → r ≡ Err (d, Disk) → Rose (disk_faults d old) (disk_faults d now) × (other_faults d now ≡ other_faults d old)
+for_disk r d old now cause is = subst (HasOpeningCause old now) is cause
+
+-- unless a disk is refused no count has changed
+pub calm_unless : {T : Type 0} (r : Result T (ℕ × OpenFault)) (old now : Seen) → HasOpeningCause old now r → ((d : ℕ) → r ≡ Err (d, Disk) → ⊥) → now.faults ≡ old.faults
+calm_unless (Ok x) old now cause other = cause
+calm_unless (Err (d, Memory)) old now cause other = cause
+calm_unless (Err (d, Disk)) old now cause other = absurd (other d refl)
+calm_unless (Err (d, BadStore file at)) old now cause other = cause
+calm_unless (Err (d, OtherProgram)) old now cause other = cause

@@ -1,13 +1,15 @@
 -- Devices as they are right after their files were opened, and what a stop leaves while they are opened.
 -- Read against: a device of `device a; var x: int = 0;` over blank files is opened at x = 0 and the number 0, with no entry since, and runs. While b is opened behind it a's files stay, and whatever a stop leaves of them could have been left before a's opening, or opens to the start.
-use Rattle.std.specs.Prelude.{◌≡◌, ◌⊎◌, ℕ, ◌<◌, ◌≤◌, List, length, Option, None, Some, slice_get}
+use Rattle.std.specs.Prelude.{◌≡◌, ◌⊎◌, ℕ, ◌<◌, ◌≤◌, List, length, Option, None, Some, Result, Ok, Err, slice_get}
+use Rattle.re_compact.specs.declared.fault.OpenFault.{OpenFault}
+use Rattle.re_compact.specs.declared.fault.OpenFault.TheVariants.{Memory, Disk, BadStore, OtherProgram}
 use Rattle.re_device.specs.Device.{DeviceState, opened_at}
 use Rattle.re_device.specs.Standing.{StandsSettled}
 use Rattle.re_outside.specs.Moment.{IsKept, Throughout}
-use Rattle.re_outside.specs.Outside.{Seen, content_in}
-use Rattle.re_outside.specs.Port.{past_in}
+use Rattle.re_outside.specs.Outside.{Rose, Seen, content_in}
+use Rattle.re_outside.specs.Port.{disk_faults, other_faults, past_in}
 use Rattle.re_outside.specs.Trace.{Past, IsCrashImageAt, as_device}
-use Rattle.re_record.specs.Restoring.{unopened}
+use Rattle.re_record.specs.Restoring.{Opened, unopened}
 use Rattle.re_record.specs.Stores.{OpensTo}
 use Rattle.re_restore.specs.Opening.{AreBlank}
 use Rattle.re_terms.specs.WordKinds.{IsStateOf}
@@ -38,3 +40,15 @@ pub record AreOpened (p : Program) (devices : List (Option DeviceState)) (old no
   pub opened : (d : ℕ) → d < length devices → (device : DeviceState) × (slice_get devices d ≡ Some (Some device)) × HasOpened p d old now device
   pub others : (d f : ℕ) → length devices ≤ d → IsKept d f (past_in 0 old) (past_in 0 now)
   pub moments : Throughout (past_in 0 old) (past_in 0 now) (KeepsOpening p (past_in 0 old))
+
+-- each device of a lesser number opens, as its files read
+abbrev pub OpenBefore : Program → ℕ → Seen → Type 0
+OpenBefore p number s = (d : ℕ) → d < number → (o : Opened) × OpensTo p d (content_in s d 0) (content_in s d 1) o
+
+-- where the disk of a device is the refusal its calls failed, and no others; else no call failed
+abbrev pub HasOpeningCause : {T : Type 0} → Seen → Seen → Result T (ℕ × OpenFault) → Type 0
+HasOpeningCause old now (Ok x) = now.faults ≡ old.faults
+HasOpeningCause old now (Err (d, Memory)) = now.faults ≡ old.faults
+HasOpeningCause old now (Err (d, Disk)) = Rose (disk_faults d old) (disk_faults d now) × (other_faults d now ≡ other_faults d old)
+HasOpeningCause old now (Err (d, BadStore file at)) = now.faults ≡ old.faults
+HasOpeningCause old now (Err (d, OtherProgram)) = now.faults ≡ old.faults

@@ -8,12 +8,13 @@ ghost use Rattle.re_record.specs.Stores as stores;
 ghost use Rattle.re_record.specs.Stores.{HasStore, OpensTo};
 ghost use Rattle.re_terms.specs.Admission.{device_count};
 ghost use Rattle.re_terms.specs.Programs.{IsProgram};
+ghost use Rattle.re_compact.specs.declared.fault.OpenFault.{OpenFault as TheFault};
 ghost use Rattle.re_compact.specs.declared.fault.OpenFault.TheVariants.{BadStore, OtherProgram};
 ghost use Rattle.re_device.specs.Standing.{StandsSettled};
 ghost use Rattle.re_restore.specs.Opening.{HasRestoreCause, StillOpens};
 ghost use Rattle.re_outside.specs.Port.{disk_faults, other_faults, past_in};
 ghost use Rattle.re_record.specs.Restoring.{Opened};
-ghost use Rattle.re_world.specs.Opening.{AreOpened, IsOpened, KeepsOpening};
+ghost use Rattle.re_world.specs.Opening.{AreOpened, HasOpeningCause, IsOpened, KeepsOpening, OpenBefore};
 ghost use Rattle.re_world.specs.State.{AllPlaced};
 
 use re_compact::OpenFault;
@@ -112,6 +113,11 @@ fn open_next<O: Outside>(
     ensures placed { OnOk result (AllPlaced p.now devices.old.items → AllPlaced p.now devices.new.items) }
     ensures opened { (start : Seen) → O.tells ≡ true → OnOk result (AreOpened p.now devices.old.items start (O.seen out.old) → AreOpened p.now devices.new.items start (O.seen out.new)) }
     ensures moments { (start : Seen) → O.tells ≡ true → AreOpened p.now devices.old.items start (O.seen out.old) → Throughout (past_in 0 start) (past_in 0 (O.seen out.new)) (KeepsOpening p.now (past_in 0 start)) }
+    ensures bad { (file at : ℕ) → O.tells ≡ true → result ≡ Err (BadStore file at) → HasStore p.now (length devices.old.items) (content_in (O.seen out.old) (length devices.old.items) 0) (content_in (O.seen out.old) (length devices.old.items) 1) (stores.Bad file at) }
+    ensures other { O.tells ≡ true → result ≡ Err OtherProgram → HasStore p.now (length devices.old.items) (content_in (O.seen out.old) (length devices.old.items) 0) (content_in (O.seen out.old) (length devices.old.items) 1) stores.OtherProgram }
+    ensures cause { HasRestoreCause (disk_faults (length devices.old.items) (O.seen out.old)) (disk_faults (length devices.old.items) (O.seen out.new)) result }
+    ensures others { other_faults (length devices.old.items) (O.seen out.new) ≡ other_faults (length devices.old.items) (O.seen out.old) }
+    ensures left { O.tells ≡ true → (O.seen out.new).left ≡ (O.seen out.old).left }
 {
     let number = devices.len() as u8;
     let Ok(()) = devices.reserve(1) else {
@@ -134,6 +140,12 @@ pub fn open_all<O: Outside>(
     ensures placed { IfOk result (λ devices. AllPlaced p.now devices.items) }
     ensures opened { O.tells ≡ true → IfOk result (λ devices. AreOpened p.now devices.items (O.seen out.old) (O.seen out.new)) }
     ensures moments { O.tells ≡ true → Throughout (past_in 0 (O.seen out.old)) (past_in 0 (O.seen out.new)) (KeepsOpening p.now (past_in 0 (O.seen out.old))) }
+    // A store is refused for what the files hold, as they read at the call, and a disk for its own calls alone.
+    ensures bad { (d file at : ℕ) → O.tells ≡ true → result ≡ Err (d, BadStore file at) → HasStore p.now d (content_in (O.seen out.old) d 0) (content_in (O.seen out.old) d 1) (stores.Bad file at) }
+    ensures other { (d : ℕ) → O.tells ≡ true → result ≡ Err (d, OtherProgram) → HasStore p.now d (content_in (O.seen out.old) d 0) (content_in (O.seen out.old) d 1) stores.OtherProgram }
+    ensures cause { HasOpeningCause (O.seen out.old) (O.seen out.new) result }
+    ensures first { (d : ℕ) (fault : TheFault) → O.tells ≡ true → result ≡ Err (d, fault) → OpenBefore p.now d (O.seen out.old) }
+    ensures left { O.tells ≡ true → (O.seen out.new).left ≡ (O.seen out.old).left }
 {
     let mut devices = Seq::new(alloc);
     for number in 0..count_devices(p.decls.as_slice()) as u8 {

@@ -1,17 +1,22 @@
 //! The world of a session: devices and packets.
-ghost use Rattle.std.specs.Prelude.{◌≡◌, ◌<◌, ◌≤◌, ◌+◌, ℕ, List, length, true, false, Some, None, Err, IfOk, OnOk};
+ghost use Rattle.std.specs.Prelude.{◌≡◌, ◌≢◌, ◌<◌, ◌≤◌, ◌+◌, ℕ, List, length, true, false, Some, None, Err, IfOk, OnOk};
 ghost use Rattle.std.specs.Option.{option_copied};
 ghost use Rattle.re_outside.specs.Moment.{Throughout};
-ghost use Rattle.re_outside.specs.Outside.{content_in};
-ghost use Rattle.re_outside.specs.Port.{past_in};
-ghost use Rattle.re_outside.specs.Trace.{IsJointImage};
+ghost use Rattle.re_outside.specs.Outside.{Rose, content_in};
+ghost use Rattle.re_outside.specs.Port.{disk_faults, other_faults, past_in};
+ghost use Rattle.re_outside.specs.Trace.{IsBefore, IsJointImage};
+ghost use Rattle.re_compact.specs.declared.fault.OpenFault.{OpenFault as TheFault};
+ghost use Rattle.re_compact.specs.declared.fault.OpenFault.TheVariants.{BadStore, Disk as DiskRefusal, OtherProgram};
 ghost use Rattle.re_print.specs.Canonical.{program_text};
+ghost use Rattle.re_record.specs.Stores as stores;
+ghost use Rattle.re_record.specs.Stores.{HasStore};
 ghost use Rattle.re_terms.specs.Admission.{device_count};
 ghost use Rattle.re_terms.specs.DeviceWorlds.{start_world};
 ghost use Rattle.re_terms.specs.Programs.{IsProgram};
 ghost use Rattle.re_terms.specs.Runs.{PlainState};
 ghost use Rattle.re_terms.specs.Updates.{Update};
 ghost use Rattle.re_world.specs.Images.{Restores};
+ghost use Rattle.re_world.specs.Opening.{OpenBefore};
 ghost use Rattle.re_world.specs.Standing.{IsWorldOf};
 ghost use Rattle.re_world.specs.Starting.{StartsAt};
 ghost use Rattle.re_world.specs.State.{device_in};
@@ -62,6 +67,20 @@ impl World {
         // The files stand for a world, and this is it. A stop at any moment leaves files that stand for it.
         ensures world { (base : ℕ → PlainState) (base_number : ℕ → ℕ) (log : List Update) → O.tells ≡ true → StartsAt p base base_number log (past_in 0 (O.seen out.old)) → IfOk result (λ v. IsWorldOf p (start_world p base base_number log) v (O.seen out.new)) }
         ensures restores { (base : ℕ → PlainState) (base_number : ℕ → ℕ) (log : List Update) → O.tells ≡ true → StartsAt p base base_number log (past_in 0 (O.seen out.old)) → Throughout (past_in 0 (O.seen out.old)) (past_in 0 (O.seen out.new)) (λ now. (files : ℕ → ℕ → List ℕ) → IsJointImage now files → Restores p (start_world p base base_number log) None files) }
+
+        // A store is refused for what the files of the device hold, as they read at the call.
+        ensures bad { (d file at : ℕ) → O.tells ≡ true → result ≡ Err (d, BadStore file at) → HasStore p d (content_in (O.seen out.old) d 0) (content_in (O.seen out.old) d 1) (stores.Bad file at) }
+        ensures other { (d : ℕ) → O.tells ≡ true → result ≡ Err (d, OtherProgram) → HasStore p d (content_in (O.seen out.old) d 0) (content_in (O.seen out.old) d 1) stores.OtherProgram }
+        // A disk is refused only where its calls failed, and then no others did; unless one is, no call failed.
+        ensures disk { (d : ℕ) → result ≡ Err (d, DiskRefusal) → Rose (disk_faults d (O.seen out.old)) (disk_faults d (O.seen out.new)) }
+        ensures others { (d : ℕ) → result ≡ Err (d, DiskRefusal) → other_faults d (O.seen out.new) ≡ other_faults d (O.seen out.old) }
+        ensures calm { ((d : ℕ) → result ≢ Err (d, DiskRefusal)) → (O.seen out.new).faults ≡ (O.seen out.old).faults }
+        // Each device before the one that is refused opens.
+        ensures first { (d : ℕ) (fault : TheFault) → O.tells ≡ true → result ≡ Err (d, fault) → OpenBefore p d (O.seen out.old) }
+
+        // No input is taken, and what was done before the call stands.
+        ensures left { O.tells ≡ true → (O.seen out.new).left ≡ (O.seen out.old).left }
+        ensures goes_on { O.tells ≡ true → IsBefore (past_in 0 (O.seen out.old)) (past_in 0 (O.seen out.new)) }
     {
         let devices = open_all(alloc, out, &p)?;
         let Ok(shape) = Shape::of(alloc, &p) else {

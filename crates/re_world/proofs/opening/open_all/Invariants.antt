@@ -8,5 +8,7 @@ abbrev pub invariant-loop-number : goal.invariant-loop-number
 invariant-loop-number g l = record {
   count : length l.devices.items ≡ l.number;
   placed : AllPlaced l.p l.devices.items;
+  faults : (g.O.Outside.seen l.out).faults ≡ (g.O.Outside.seen l.fn.out).faults;
+  left : g.O.Outside.tells ≡ true → (g.O.Outside.seen l.out).left ≡ (g.O.Outside.seen l.fn.out).left;
   opened : g.O.Outside.tells ≡ true → AreOpened l.p l.devices.items (g.O.Outside.seen l.fn.out) (g.O.Outside.seen l.out);
 }

@@ -1,7 +1,5 @@
 -- A device over what was restored.
-use Rattle.std.proofs.Common.{◌≡◌, ◌∙◌, Result, Ok, Err, sym, ap, subst}
-use Rattle.std.specs.Result.{IsErrAnd}
-use Rattle.re_compact.specs.declared.fault.OpenFault.{OpenFault}
+use Rattle.std.proofs.Common.{◌∙◌, Err, sym, ap, subst}
 use Rattle.re_compact.specs.declared.fault.OpenFault.TheVariants.{BadStore}
 use Rattle.re_device.specs.Device.{DeviceState, opened_at}
 use Rattle.re_device.specs.Standing.{StandsSettled}
@@ -9,13 +7,9 @@ use Rattle.re_outside.specs.Trace.{content_of}
 use Rattle.re_record.specs.Stores.{OpensTo}
 use Rattle.re_terms.proofs.Ordered.{program-ordered, program-regions}
 use Rattle.re_terms.specs.declared.program.Program.{Program}
+use Rattle.re_world.proofs.Opened.{handed_on}
 use Rattle.re_world.proofs.Restored.{opens_restored, stands_restored}
 use Rattle.re_world.proofs.opening.open_device.Goals as goal
-
--- the fault of a call that is handed on
-handed_on : {T : Type 0} (r : Result T OpenFault) (e f : OpenFault) → IsErrAnd r (λ x. x ≡ e) → r ≡ Err f → e ≡ f
-handed_on (Ok x) e f is same = absurd is
-handed_on (Err y) e f is same = sym is ∙ (cc)
 
 pub returns-in_err-restored-clause-bad : goal.returns-in_err-restored-clause-bad
 returns-in_err-restored-clause-bad g c = λ file at tells e.

@@ -1,5 +1,6 @@
 -- What was opened is the world of the start, and a stop within the opening leaves what restores to it.
-use Rattle.std.proofs.Common.{◌∙◌, ℕ, List, None, map, refl, ap}
+use Rattle.std.proofs.Common.{◌≡◌, ◌∙◌, ℕ, List, None, Result, Err, map, refl, sym, ap, arith}
+use Rattle.re_compact.specs.declared.fault.OpenFault.TheVariants.{BadStore, Disk, Memory, OtherProgram}
 use Rattle.re_outside.proofs.Moments.{weaken}
 use Rattle.re_outside.specs.Listed.{Listed as Bytes}
 use Rattle.re_outside.specs.Moment.{Throughout}
@@ -12,11 +13,16 @@ use Rattle.re_terms.specs.Runs.{PlainState}
 use Rattle.re_terms.specs.Updates.{Update}
 use Rattle.re_terms.specs.declared.program.Program.{Program}
 use Rattle.re_world.proofs.Beginning.{is_world}
+use Rattle.re_world.proofs.Opened.{calm_unless, for_disk, handed_on, is_refused, same_refusal}
 use Rattle.re_world.proofs.Started.{start_restores}
 use Rattle.re_world.specs.Images.{Restores}
 use Rattle.re_world.specs.Opening.{KeepsOpening}
 use Rattle.re_world.specs.Starting.{StartsAt}
 use Rattle.re_world.proofs.world.World.new.Goals as goal
+
+-- one result has one refusal
+handed_by : {T E : Type 0} (r : Result T E) (e f : E) → r ≡ Err e → r ≡ Err f → e ≡ f
+handed_by r e f is same = let both = sym is ∙ same in cc
 
 restores_throughout : (p : Program) (base : ℕ → PlainState) (base_number : ℕ → ℕ) (log : List Update) (old now : Past) → IsProgram p → StartsAt p base base_number log old → Throughout old now (KeepsOpening p old)
     → Throughout old now (λ m. (files : ℕ → ℕ → List ℕ) → IsJointImage m files → Restores p (start_world p base base_number log) None files)
@@ -42,3 +48,49 @@ returns-clause-world g c = λ base base_number log tells starts.
     is_world c.args.p base base_number log old now c.requires.program starts c.in_ok-devices.devices.items c.in_ok-devices.ensures.count (c.in_ok-devices.ensures.opened tells)
     (λ d f. g.met.O.Outside.reads_left c.open_all.new.out d f (g.met.O.Outside.tells_always c.open_all.new.out ∙ tells)) _ refl refl
     (ap (λ (l : Listed (Bytes ℕ)). map (λ (bytes : Bytes ℕ). bytes.items) l.items) c.new.ensures)
+
+pub returns-in_err-devices-clause-bad : goal.returns-in_err-devices-clause-bad
+returns-in_err-devices-clause-bad g c d file at tells refused =
+    c.open_all.ensures.bad d file at tells (c.in_err-devices.was ∙ ap Err (handed_on c.from_residual.result c.in_err-devices.field-0.0 (d, BadStore file at) c.from_residual.ensures.1 refused))
+
+pub returns-in_err-devices-clause-other : goal.returns-in_err-devices-clause-other
+returns-in_err-devices-clause-other g c d tells refused =
+    c.open_all.ensures.other d tells (c.in_err-devices.was ∙ ap Err (handed_on c.from_residual.result c.in_err-devices.field-0.0 (d, OtherProgram) c.from_residual.ensures.1 refused))
+
+pub returns-in_err-devices-clause-disk : goal.returns-in_err-devices-clause-disk
+returns-in_err-devices-clause-disk g c d refused =
+    (for_disk c.open_all.result d (g.O.Outside.seen c.args.out.now) (g.O.Outside.seen c.open_all.new.out) c.open_all.ensures.cause (c.in_err-devices.was ∙ ap Err (handed_on c.from_residual.result c.in_err-devices.field-0.0 (d, Disk) c.from_residual.ensures.1 refused))).0
+
+pub returns-in_err-devices-clause-others : goal.returns-in_err-devices-clause-others
+returns-in_err-devices-clause-others g c d refused =
+    (for_disk c.open_all.result d (g.O.Outside.seen c.args.out.now) (g.O.Outside.seen c.open_all.new.out) c.open_all.ensures.cause (c.in_err-devices.was ∙ ap Err (handed_on c.from_residual.result c.in_err-devices.field-0.0 (d, Disk) c.from_residual.ensures.1 refused))).1
+
+pub returns-in_err-devices-clause-calm : goal.returns-in_err-devices-clause-calm
+returns-in_err-devices-clause-calm g c other =
+    let is = is_refused c.from_residual.result c.in_err-devices.field-0.0 c.from_residual.ensures.1 in
+    calm_unless c.open_all.result (g.O.Outside.seen c.args.out.now) (g.O.Outside.seen c.open_all.new.out) c.open_all.ensures.cause
+    (λ d same. other d (is ∙ ap Err (handed_by c.open_all.result c.in_err-devices.field-0.0 (d, Disk) c.in_err-devices.was same)))
+
+pub returns-in_err-devices-clause-first : goal.returns-in_err-devices-clause-first
+returns-in_err-devices-clause-first g c d fault tells refused =
+    c.open_all.ensures.first d fault tells (c.in_err-devices.was ∙ ap Err (handed_on c.from_residual.result c.in_err-devices.field-0.0 (d, fault) c.from_residual.ensures.1 refused))
+
+pub returns-in_err-devices-clause-goes_on : goal.returns-in_err-devices-clause-goes_on
+returns-in_err-devices-clause-goes_on g c tells = (c.open_all.ensures.moments tells).goes_on
+
+pub returns-in_default-clause-calm : goal.returns-in_default-clause-calm
+returns-in_default-clause-calm g c other = c.in_ok-devices.ensures.cause
+
+pub returns-in_default-clause-first : goal.returns-in_default-clause-first
+returns-in_default-clause-first g c d fault tells refused before below =
+    let none : d ≡ 0 = sym (same_refusal 0 d Memory fault refused).0 in
+    absurd (omega (arith, none, below))
+
+pub returns-in_default-clause-goes_on : goal.returns-in_default-clause-goes_on
+returns-in_default-clause-goes_on g c tells = (c.open_all.ensures.moments tells).goes_on
+
+pub returns-clause-calm : goal.returns-clause-calm
+returns-clause-calm g c other = c.in_ok-devices.ensures.cause
+
+pub returns-clause-goes_on : goal.returns-clause-goes_on
+returns-clause-goes_on g c tells = (c.open_all.ensures.moments tells).goes_on
