@@ -119,7 +119,9 @@ impl Device {
 
     /// The packet of what it has settled, without unsettled entries: its bytes stand in docs/FORMATS.md. The one refusal is want of memory.
     pub fn packet(&self) -> Result<Bytes, AllocError>
-        ensures { IfOk result (λ bytes. bytes ≡ plain (packet_bytes (shape_of self.now.memory.program).devices self.now.memory.settled.state.rep)) }
+        ensures bytes { IfOk result (λ bytes. bytes ≡ plain (packet_bytes (shape_of self.now.memory.program).devices self.now.memory.settled.state.rep)) }
+        // What is sent fits, so that whoever gets it can read it.
+        ensures fits { FitsShape (shape_of self.now.memory.program) self.now.memory.settled.state.rep }
     {
         self.settled.outbox.packet(&self.shape)
     }
