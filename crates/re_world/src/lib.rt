@@ -1,8 +1,14 @@
 //! The devices of a program, their packets, and the commands to them.
 #![tactic(auto)]
 
+mod answers;
+mod calls;
+mod commands;
+mod commits;
 pub mod laws;
+mod lending;
 mod opening;
+mod restart;
 mod world;
 
 pub use world::World;

@@ -74,7 +74,7 @@ pub fn open_device<D: Disk>(
 /// Opens a device of a program over its files outside.
 ///
 /// The refusals are those of `open_device`.
-fn open_outside<O: Outside>(
+pub(crate) fn open_outside<O: Outside>(
     alloc: Global,
     out: &mut O,
     p: &Program,

@@ -8,26 +8,31 @@ ghost use Rattle.re_outside.specs.Trace.{IsBefore, IsJointImage};
 ghost use Rattle.re_compact.specs.declared.fault.OpenFault.{OpenFault as TheFault};
 ghost use Rattle.re_compact.specs.declared.fault.OpenFault.TheVariants.{BadStore, Disk as DiskRefusal, OtherProgram};
 ghost use Rattle.re_print.specs.Canonical.{program_text};
+ghost use Rattle.re_print.specs.AnswerTexts.{AscendsWhereSet};
 ghost use Rattle.re_record.specs.Stores as stores;
 ghost use Rattle.re_record.specs.Stores.{HasStore};
-ghost use Rattle.re_terms.specs.Admission.{device_count};
+ghost use Rattle.re_terms.specs.Admission.{IsCommandOf, device_count};
 ghost use Rattle.re_terms.specs.DeviceWorlds.{start_world};
 ghost use Rattle.re_terms.specs.Programs.{IsProgram};
 ghost use Rattle.re_terms.specs.Runs.{PlainState};
 ghost use Rattle.re_terms.specs.Updates.{Update};
+ghost use Rattle.re_terms.specs.Worlds.{plain_answer};
 ghost use Rattle.re_world.specs.Images.{Restores};
 ghost use Rattle.re_world.specs.Opening.{OpenBefore};
 ghost use Rattle.re_world.specs.Standing.{IsWorldOf};
 ghost use Rattle.re_world.specs.Starting.{StartsAt};
 ghost use Rattle.re_world.specs.State.{device_in};
+ghost use Rattle.re_world.specs.Stepping.{CountsBy, DoesCommand, HasStepped};
 
 use crate::opening::open_all;
 use re_compact::OpenFault;
 use re_device::Device;
+use re_eval::Steps;
 use re_outside::{Bytes, Outside};
-use re_terms::{Program, Seq, Shape};
+use re_terms::{Answer, Command, Program, Seq, Shape};
 use std::alloc::Global;
-use std::marker::Model;
+use std::marker::{Brand, Model};
+use std::sync::ledger::{Blank, Ledger};
 
 /// The devices of a program, each over its own two files, and the packets that they made.
 ///
@@ -93,6 +98,48 @@ impl World {
             devices,
             packets: Seq::new(alloc),
         })
+    }
+
+    /// Does a command, and gives its answer.
+    ///
+    /// The condition is that the command is one of the program. The refusals are codes, and docs/SESSION.md has them all with their causes, in the order in
+    /// which they come; want of memory, 36, may come in the place of any other answer. A refused command changes nothing, but for 33: then
+    /// a call of the device's disk failed, the device's memory is as before, its files hold the entries of the record or not, and it has
+    /// stopped until it is crashed and restarted; a restart leaves it down.
+    pub fn step<O: Outside>(&mut self, out: &mut O, c: Command) -> Answer
+        requires { IsCommandOf self.old.program c }
+        ensures program { self.new.program ≡ self.old.program }
+        // Where the outside tells what is seen, the command is one step of each world that these devices, packets and files are, and a stop at
+        // any moment leaves files that restore to it.
+        ensures stepped { O.tells ≡ true → HasStepped self.old self.new c (plain_answer result) (O.seen out.old) (O.seen out.new) }
+        // The code 33 comes exactly where the count of the device's disk rose, and no other count changes.
+        ensures counts { CountsBy c (plain_answer result) (O.seen out.old) (O.seen out.new) }
+        ensures left { O.tells ≡ true → (O.seen out.new).left ≡ (O.seen out.old).left }
+        ensures ascends { AscendsWhereSet result }
+    {
+        self.do_command::<Brand, O>(out, c, Blank::new(1))
+    }
+
+    /// Does a command, and counts its evaluations in a ledger that is blank.
+    fn do_command<L: Ledger, O: Outside>(&mut self, out: &mut O, c: Command, blank: Blank) -> Answer
+        requires command { IsCommandOf self.old.program c }
+        requires name { blank.name ≡ L.name }
+        requires parts { blank.parts ≡ L.parts }
+        requires one { 0 < L.parts }
+        ensures { DoesCommand O.tells self.old self.new c result (O.seen out.old) (O.seen out.new) }
+    {
+        let mut steps = Steps::<L>::new(blank);
+        match c {
+            Command::Turn { device, turn } => self.turn(out, device, turn, &mut steps),
+            Command::Lazy { device, turn } => self.lazy(device, turn, &mut steps),
+            Command::Settle { device } => self.settle(out, device),
+            Command::Get { device, id } => self.get(device, id),
+            Command::Send { device } => self.send(device),
+            Command::Deliver { packet, device } => self.deliver(out, packet, device, &mut steps),
+            Command::Hex { packet } => self.hex(packet),
+            Command::Crash { device } => self.crash(device),
+            Command::Restart { device } => self.restart(out, device),
+        }
     }
 
     /// The device with this number, none where it is down.

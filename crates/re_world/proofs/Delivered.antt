@@ -1,0 +1,104 @@
+-- A packet of the world, as its bytes are read.
+use Rattle.std.proofs.Common.{◌≡◌, ◌<◌, ◌≤◌, ◌+◌, ◌∷◌, [], ℕ, zero, suc, List, Option, Some, None, length, refl, sym, ap, subst, ◌∙◌, arith}
+use Rattle.std.specs.Prelude.{◌^◌, true, false, map, nat_le, slice_get}
+use Rattle.std.specs.List.{All}
+use Rattle.std.proofs.lemmas.Bool.Decides.{nat_tests}
+use Rattle.std.proofs.lemmas.List.{length-map}
+use Rattle.std.proofs.lemmas.List.Elements.{All-head, All-tail}
+use Rattle.std.proofs.lemmas.Option.{slice_get_within}
+use Rattle.re_device.specs.Device.{DeviceState, current}
+use Rattle.re_device.specs.Stepping.{IsPacketOf}
+use Rattle.re_outside.specs.Listed.{Listed}
+use Rattle.re_outside.specs.Outside.{Seen}
+use Rattle.re_terms.proofs.Growing.{entries_taken, part_grown}
+use Rattle.re_terms.proofs.ProgramShapes.{program_shape}
+use Rattle.re_terms.proofs.StateLengths.{packet_long}
+use Rattle.re_terms.specs.Admission.{device_count}
+use Rattle.re_terms.specs.DeviceWorlds.{World, settled_taken, spelled}
+use Rattle.re_terms.specs.Entries.{run_updates}
+use Rattle.re_terms.specs.Programs.{IsProgram}
+use Rattle.re_terms.specs.Shapes.{FitsShape, shape_of}
+use Rattle.re_terms.specs.Spellings.{packet_bytes}
+use Rattle.re_terms.specs.UpdateStates.{join_states, state_of_updates}
+use Rattle.re_terms.specs.Updates.{Update}
+use Rattle.re_terms.specs.declared.program.Program.{Program}
+use Rattle.re_terms.specs.declared.replicated.RState.{RState}
+use Rattle.re_world.proofs.Within.{part_at}
+use Rattle.re_world.specs.Standing.{IsWorldOf}
+use Rattle.re_world.specs.State.{IsPacket, WorldState}
+
+-- what stands in a mapped list stands for one of the list
+pub mapped_at : {X Y : Type 0} (f : X → Y) (xs : List X) (k : ℕ) (y : Y) → slice_get (map f xs) k ≡ Some y → (x : X) × (slice_get xs k ≡ Some x) × (y ≡ f x)
+mapped_at f [] k y e = absurd (cc)
+mapped_at f (x ∷ xs) zero y e = (x, refl, same e)
+  where
+    same : Some (f x) ≡ Some y → y ≡ f x
+    same h = cc
+mapped_at f (x ∷ xs) (suc k) y e = mapped_at f xs k y e
+
+-- what all have, the one at a place has
+pub all_at : {X : Type 0} (P : X → Type 0) (xs : List X) (k : ℕ) (x : X) → All P xs → slice_get xs k ≡ Some x → P x
+all_at P [] k x all e = absurd (cc)
+all_at P (y ∷ xs) zero x all e = subst P (same e) (All-head P y xs all)
+  where
+    same : Some y ≡ Some x → y ≡ x
+    same h = cc
+all_at P (y ∷ xs) (suc k) x all e = all_at P xs k x (All-tail P y xs all) e
+
+-- a state with the bytes of a packet is that packet's, for the device that it is delivered to
+pub packet_of : (p : Program) (w : World) (v : WorldState) (s : Seen) (x : DeviceState) (k : ℕ) (bytes : List ℕ) (state : RState) → IsWorldOf p w v s → x.memory.device < device_count p.decls.items → slice_get v.packets k ≡ Some bytes
+    → ((r : RState) → FitsShape (shape_of p) r → bytes ≡ packet_bytes (shape_of p).devices r → state ≡ r) → IsPacketOf x k state p w
+packet_of p w v s x k bytes state is below at only =
+    let d = x.memory.device in
+    let found : (us : List Update) × (slice_get w.packets k ≡ Some us) × (bytes ≡ spelled p us) = mapped_at (spelled p) w.packets k bytes (subst (λ l. slice_get l k ≡ Some bytes) is.packets at) in
+    let us = found.0 in
+    record {
+      packet = us;
+      listed = found.1;
+      part = part_grown w.log (run_updates d (settled_taken w d) (w.unsettled d)) us (entries_taken w.log (settled_taken w d) d (w.unsettled d) (is.causal.taken_in d below) (is.causal.unsettled d)).causal (part_at w.log w.packets k us is.causal.packets found.1);
+      joins = ap (join_states (current x.memory).state.rep) (only (state_of_updates (shape_of p) us) (all_at (λ us. FitsShape (shape_of p) (state_of_updates (shape_of p) us)) w.packets k us is.fit found.1) found.2);
+    }
+
+-- ---- the packets as they are kept
+
+module _ (p : Program) (w : World) (v : WorldState) (s : Seen) (is : IsWorldOf p w v s) (kept : List (Listed ℕ)) (same : v.packets ≡ map (λ (bytes : Listed ℕ). bytes.items) kept) where
+  packet_count : length w.packets ≡ length kept
+  packet_count = sym (length-map w.packets (spelled p)) ∙ ap (λ (l : List (List ℕ)). length l) (sym is.packets ∙ same) ∙ length-map kept (λ (bytes : Listed ℕ). bytes.items)
+
+  -- there is no packet with this number
+  pub none_there : (k : ℕ) → slice_get kept k ≡ None → nat_le (length w.packets) k ≡ true
+  none_there k none = let count = packet_count in let past = none_past kept k none in let behind : length w.packets ≤ k = omega (arith, count, past) in reached (length w.packets) k behind
+    where
+      none_past : {X : Type 0} (xs : List X) (i : ℕ) → slice_get xs i ≡ None → length xs ≤ i
+      none_past [] i e = omega arith
+      none_past (x ∷ xs) zero e = absurd (some_none x e)
+        where
+          some_none : {X : Type 0} (x : X) → Some x ≡ None → ⊥
+          some_none x h = cc
+      none_past (x ∷ xs) (suc i) e = let rest = none_past xs i e in omega (arith, rest)
+
+      reached : (n i : ℕ) → n ≤ i → nat_le n i ≡ true
+      reached n i h = grind (arith, nat_tests)
+
+  -- there is one
+  pub one_there : (k : ℕ) (bytes : Listed ℕ) → slice_get kept k ≡ Some bytes → nat_le (length w.packets) k ≡ false
+  one_there k bytes at = let count = packet_count in let within = slice_get_within kept k bytes at in let before : k < length w.packets = omega (arith, count, within) in missed (length w.packets) k before
+    where
+      missed : (n i : ℕ) → i < n → nat_le n i ≡ false
+      missed n i h = grind (arith, nat_tests)
+
+-- the bytes of a packet that is kept
+pub kept_at : (v : WorldState) (kept : List (Listed ℕ)) (k : ℕ) (bytes : Listed ℕ) → v.packets ≡ map (λ (b : Listed ℕ). b.items) kept → slice_get kept k ≡ Some bytes → slice_get v.packets k ≡ Some bytes.items
+kept_at v kept k bytes same at = ap (λ l. slice_get l k) same ∙ through kept k at
+  where
+    through : (xs : List (Listed ℕ)) (i : ℕ) → slice_get xs i ≡ Some bytes → slice_get (map (λ (b : Listed ℕ). b.items) xs) i ≡ Some bytes.items
+    through [] i e = absurd (cc)
+    through (x ∷ xs) zero e = ap (λ (y : Listed ℕ). Some y.items) (some_is e)
+      where
+        some_is : Some x ≡ Some bytes → x ≡ bytes
+        some_is h = cc
+    through (x ∷ xs) (suc i) e = through xs i e
+
+-- they are short
+pub packet_short : (p : Program) (bytes : List ℕ) → IsProgram p → IsPacket p bytes → length bytes < 2 ^ 32
+packet_short p bytes is packet = let long = packet_long (shape_of p) packet.0 (program_shape p is) packet.1 in let same = ap (λ (l : List ℕ). length l) packet.2 in omega (arith, long, same)

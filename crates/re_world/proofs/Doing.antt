@@ -1,0 +1,149 @@
+-- All that a command that commits does.
+use Rattle.std.proofs.Common.{◌≡◌, ◌<◌, ℕ, List, Option, Some, None, Result, Ok, Err, refl, sym, ap, subst, ◌∙◌, inl, inr}
+use Rattle.std.specs.Prelude.{Bool, false, true, ◌==◌, ◌≢◌, if◌then◌else◌}
+use mathlib.Core.Bool.{true≢false}
+use Rattle.std.proofs.lemmas.Bool.Decides.{eqb_tells}
+use Rattle.re_device.specs.Committing.{HasDiskCause, record_reads_open}
+use Rattle.re_device.specs.Device.{DeviceState}
+use Rattle.re_device.specs.Stepping.{IsDeviceOf, answered_as, fared_as, refused_as}
+use Rattle.re_device.specs.declared.fault.DeviceFault.{DeviceFault}
+use Rattle.re_device.specs.declared.fault.DeviceFault.TheVariants as fault
+use Rattle.re_outside.specs.Outside.{Disk, FaultKind, Faults, Input, Output, Rose, Seen, is_kind}
+use Rattle.re_outside.specs.Port.{disk_faults, other_faults, past_in}
+use Rattle.re_outside.specs.Trace.{IsCrashImageOf, content_of}
+use Rattle.re_print.specs.AnswerTexts.{AscendsWhereSet}
+use Rattle.re_record.specs.Restoring.{Opened}
+use Rattle.re_terms.specs.Admission.{IsCommandOf, device_count}
+use Rattle.re_terms.specs.DeviceWorlds.{Outcome, World, device_of, world_after}
+use Rattle.re_terms.specs.Lines.{may_have_entered}
+use Rattle.re_terms.specs.Worlds.{PlainAnswer, plain_answer}
+use Rattle.re_terms.specs.declared.command.Answer.{Answer}
+use Rattle.re_terms.specs.declared.command.Command.{Command}
+use Rattle.re_terms.specs.declared.program.Program.{Program}
+use Rattle.re_world.proofs.CommitSteps.{answered_steps}
+use Rattle.re_world.proofs.Committed.{IsCommit}
+use Rattle.re_world.specs.Calls.{Commits}
+use Rattle.re_world.specs.Standing.{HasDevice, IsWorldOf}
+use Rattle.re_world.specs.State.{WorldState, device_in}
+use Rattle.re_world.specs.Stepping.{CountsBy, DoesCommand, HasStepped, NoneRose, OwnRose, RestoresWithin, Shows}
+
+-- ---- counts
+
+-- a device's count and all others stand still
+pub none_rose : (d : ℕ) (before now : Seen) → disk_faults d now ≡ disk_faults d before → other_faults d now ≡ other_faults d before → NoneRose before now
+none_rose d before now own others Input = λ i. others i Input
+none_rose d before now own others Output = λ i. others i Output
+none_rose d before now own others (Disk e) = elim (eqb_tells d e) [
+  | inl same ↦ subst (λ x. now.faults (Disk x) ≡ before.faults (Disk x)) same.1 own
+  | inr other ↦ by_other (d == e) other.0 (λ i. others i (Disk e))
+]
+  where
+    by_other : (b : Bool) → b ≡ false → (if b then 0 else now.faults (Disk e)) ≡ (if b then 0 else before.faults (Disk e)) → now.faults (Disk e) ≡ before.faults (Disk e)
+    by_other true is same = absurd (true≢false is)
+    by_other false is same = same
+
+-- ---- a command that commits
+
+-- what is known of it: the device before and after it, over which its call was made, and how it is answered
+pub record CommitFacts {T : Type 0} (P : Program → World → Type 0) (done : T → PlainAnswer) (after : Opened) (tells : Bool) (old new : WorldState) (x x' : DeviceState) (c : ℕ → Command) (a : Answer) (before now : Seen) (r : Result T DeviceFault) (n : ℕ) : Type 0 where
+  pub of : IsCommandOf old.program (c n)
+  pub below : n < device_count old.program.decls.items
+  pub device_is : device_of (c n) ≡ Some n
+  pub commit : (p : Program) (w : World) → IsCommit p w (c n) n
+  pub place : device_in old n ≡ Some x
+  pub number : x'.memory.device ≡ n
+  pub new_place : device_in new n ≡ Some x'
+  pub other_places : (e : ℕ) → e ≢ n → device_in new e ≡ device_in old e
+  pub program : new.program ≡ old.program
+  pub packets : new.packets ≡ old.packets
+  pub answer : plain_answer a ≡ answered_as done r
+  pub ascends : AscendsWhereSet a
+  pub cause : HasDiskCause (disk_faults n before) (disk_faults n now) r
+  pub others : other_faults n now ≡ other_faults n before
+  pub left : tells ≡ true → now.left ≡ before.left
+  pub commits : tells ≡ true → Commits P after (c x.memory.device) (answered_as done) x x' (past_in n before) (past_in n now) r
+  pub holds : (p : Program) (w : World) → IsWorldOf p w old before → P p w
+  pub reads : tells ≡ true → (f : ℕ) → IsCrashImageOf (past_in n now) f (content_of (past_in n now) f)
+  pub enters : (y : T) → may_have_entered (done y) ≡ true
+  pub counts : (y : T) → NoneRose before now → CountsBy (c n) (done y) before now
+
+module _ {T : Type 0} (P : Program → World → Type 0) (done : T → PlainAnswer) (after : Opened) (tells : Bool) (old new : WorldState) (x x' : DeviceState) (c : ℕ → Command) (a : Answer) (before now : Seen) (r : Result T DeviceFault) where
+  abbrev Facts : ℕ → Type 0
+  Facts n = CommitFacts P done after tells old new x x' c a before now r n
+
+  module _ (n : ℕ) (facts : Facts n) where
+    none : disk_faults n now ≡ disk_faults n before → NoneRose before now
+    none own = none_rose n before now own facts.others
+
+    own_rose : Rose (disk_faults n before) (disk_faults n now) → OwnRose (c n) before now
+    own_rose rose = record { device = n; device_is = facts.device_is; rose = rose; others = facts.others }
+
+    abbrev stop : Option ℕ
+    stop = x'.journal.stopped
+
+    counts_by : (q : Result T DeviceFault) → HasDiskCause (disk_faults n before) (disk_faults n now) q → CountsBy (c n) (answered_as done q) before now
+    counts_by (Ok y) cause = facts.counts y (none cause)
+    counts_by (Err fault.Disk) cause = own_rose cause
+    counts_by (Err fault.Memory) cause = none cause
+    counts_by (Err (fault.Stopped at)) cause = none cause
+    counts_by (Err fault.Full) cause = none cause
+    counts_by (Err fault.LooseFull) cause = none cause
+    counts_by (Err fault.SetFull) cause = none cause
+    counts_by (Err fault.CounterFull) cause = none cause
+    counts_by (Err fault.DotsSpent) cause = none cause
+
+    shows_by : (b : Bool) (q : Result T DeviceFault) → HasDiskCause (disk_faults n before) (disk_faults n now) q → Shows old.program (c n) (fared_as stop b q) before now
+    shows_by b (Ok y) cause = none cause
+    shows_by b (Err fault.Disk) cause = own_rose cause
+    shows_by b (Err fault.Memory) cause = none cause
+    shows_by b (Err (fault.Stopped at)) cause = none cause
+    shows_by b (Err fault.Full) cause = none cause
+    shows_by b (Err fault.LooseFull) cause = none cause
+    shows_by b (Err fault.SetFull) cause = none cause
+    shows_by b (Err fault.CounterFull) cause = none cause
+    shows_by b (Err fault.DotsSpent) cause = none cause
+
+  -- the same, of the device's own number
+  module _ (facts : Facts x.memory.device) (told : tells ≡ true) where
+    abbrev n : ℕ
+    n = x.memory.device
+
+    abbrev outcome : Outcome
+    outcome = fared_as x'.journal.stopped (record_reads_open x (past_in n before) (past_in n now)) r
+
+    module _ (p : Program) (w : World) (is : IsWorldOf p w old before) where
+      of : IsCommandOf p (c n)
+      of = subst (λ q. IsCommandOf q (c n)) is.program facts.of
+
+      below : n < device_count p.decls.items
+      below = subst (λ (q : Program). n < device_count q.decls.items) is.program facts.below
+
+      steps : IsWorldOf p (world_after p w (c n) outcome) new now × RestoresWithin p w (c n) outcome before now
+      steps =
+          answered_steps p w old (c n) x before now is of (facts.commit p w) below facts.place P done facts.enters after new x' (facts.holds p w is) facts.number facts.new_place facts.other_places facts.program facts.packets (facts.reads told) r
+          (facts.commits told)
+
+      own : IsDeviceOf p w x
+      own = (subst (λ o. HasDevice p w n o (past_in n before)) facts.place (is.devices n below)).0
+
+    own_stepped : HasStepped old new (c n) (plain_answer a) before now
+    own_stepped = record {
+      outcome = outcome;
+      shows = shows_by n facts _ r facts.cause;
+      answers = λ p w is. facts.answer ∙ (facts.commits told).steps.answers p w (own p w is) (facts.holds p w is);
+      world = λ p w is. (steps p w is).0;
+      restores = λ p w is. (steps p w is).1;
+    }
+
+  own_does : Facts x.memory.device → DoesCommand tells old new (c x.memory.device) a before now
+  own_does facts = record {
+    program = facts.program;
+    ascends = facts.ascends;
+    counts = subst (λ q. CountsBy (c x.memory.device) q before now) (sym facts.answer) (counts_by x.memory.device facts r facts.cause);
+    left = facts.left;
+    stepped = own_stepped facts;
+  }
+
+  -- the command does all that a command does
+  pub commit_does : (n : ℕ) → x.memory.device ≡ n → Facts n → DoesCommand tells old new (c n) a before now
+  commit_does n same facts = subst (λ m. Facts m → DoesCommand tells old new (c m) a before now) same own_does facts

@@ -1,0 +1,147 @@
+-- Commands that call nothing outside and are done.
+use Rattle.std.proofs.Common.{◌≡◌, ◌⊎◌, inl, inr, ◌<◌, ◌≤◌, ◌+◌, ◌++◌, ◌∷◌, [], ℕ, List, Option, Some, None, Result, Ok, Err, length, refl, sym, ap, subst, ◌∙◌, arith}
+use Rattle.std.specs.Prelude.{Bool, false, true, not, map, ◌≢◌, ◌==◌, OnOk, if◌then◌else◌, nat_le, slice_set, unwrap_or}
+use Rattle.std.specs.List.{All}
+use Rattle.std.specs.Option.{option_map_or, option_or}
+use Rattle.std.proofs.lemmas.Bool.Decides.{nat_tests}
+use Rattle.std.proofs.lemmas.List.{map-append}
+use Rattle.re_device.proofs.Opening.{shown_packet_is, shown_set_is, shown_word_is}
+use Rattle.re_device.specs.Device.{DeviceMemory, DeviceState, current}
+use Rattle.re_compact.specs.Pair.{StandsIn}
+use Rattle.re_device.specs.Standing.{StandsSettled}
+use Rattle.re_journal.specs.declared.journal.Journal.{Journal}
+use Rattle.re_outside.specs.Frame.{Store}
+use Rattle.re_record.specs.Stores.{ComesTo}
+use Rattle.re_print.specs.AnswerTexts.{AscendsWhereSet}
+use Rattle.re_device.specs.Stepping.{IsDeviceOf, StepsTo, applied_as, fared_as}
+use Rattle.re_device.specs.declared.fault.DeviceFault.{DeviceFault}
+use Rattle.re_device.specs.declared.fault.DeviceFault.TheVariants as fault
+use Rattle.re_outside.specs.Outside.{Seen}
+use Rattle.re_outside.specs.Port.{past_in}
+use Rattle.re_outside.specs.Trace.{Past}
+use Rattle.re_terms.proofs.CausalSteps.{stepped}
+use Rattle.re_terms.proofs.WorldSteps.{with_at-same}
+use Rattle.re_terms.specs.Admission.{IsCommandOf, device_count}
+use Rattle.re_terms.specs.CausalWorlds.{IsCausalWorld}
+use Rattle.re_terms.specs.DeviceWorlds.{BadStore, Failed, Fine, Memory, OtherProgram, Outcome, World, apply, device_of, done_answer, done_world, fared_answer, fared_world, outcome_of, put_down, recovered, refusal, reply, settled_taken, spelled, world_after}
+use Rattle.re_terms.specs.Entries.{PlainEntry, run_entries}
+use Rattle.re_terms.specs.Runs.{PlainState, StandsForPlain}
+use Rattle.re_terms.specs.Shapes.{FitsShape, shape_of}
+use Rattle.re_terms.specs.UpdateStates.{state_of_updates}
+use Rattle.re_terms.specs.Updates.{Update}
+use Rattle.re_terms.specs.Worlds.{PlainAnswer, plain_answer}
+use Rattle.re_terms.specs.declared.command.Answer.{Answer}
+use Rattle.re_terms.specs.declared.command.Answer.TheVariants as answer
+use Rattle.re_terms.specs.declared.command.Command.{Command}
+use Rattle.re_terms.specs.declared.command.Command.TheVariants as command
+use Rattle.re_terms.specs.declared.entry.Admitted.{Admitted}
+use Rattle.re_terms.specs.declared.program.Program.{Program}
+use Rattle.re_world.proofs.Agreeing.{Agrees, IsElsewhere, after_agrees, opens_in}
+use Rattle.re_world.proofs.Inside.{device_has, stop_first}
+use Rattle.re_world.proofs.Lent.{none_taken, place_below, place_elsewhere, place_here}
+use Rattle.re_world.proofs.Stepped.{world_behind}
+use Rattle.re_world.proofs.Within.{within_still}
+use Rattle.re_world.specs.Standing.{HasDevice, IsWorldOf, RestsAs}
+use Rattle.re_world.specs.State.{WorldState, device_in}
+use Rattle.re_world.specs.Stepping.{CountsBy, DoesInside, Shows}
+
+-- the worlds have the same of what the files of a device hold
+pub record HoldsAlike (n : ℕ) (w u : World) : Type 0 where
+  pub base : u.base n ≡ w.base n
+  pub base_number : u.base_number n ≡ w.base_number n
+  pub settled : u.settled n ≡ w.settled n
+  pub in_doubt : u.in_doubt n ≡ w.in_doubt n
+  pub reads : u.reads n ≡ w.reads n
+
+pub rests_alike : (p : Program) (w u : World) (n : ℕ) (now : Past) → HoldsAlike n w u → RestsAs p w n now → RestsAs p u n now
+rests_alike p w u n now alike rests = record {
+  images = λ first second a b. elim (rests.images first second a b) [
+    | inl settled ↦ inl (opens_in p w u n alike.base alike.base_number first second (w.settled n) (u.settled n) alike.settled settled)
+    | inr more ↦ inr (opens_in p w u n alike.base alike.base_number first second (w.settled n ++ w.in_doubt n) (u.settled n ++ u.in_doubt n) (λ i. alike.settled i ++ alike.in_doubt i) more)
+  ];
+  reads = opens_in p w u n alike.base alike.base_number _ _ (w.settled n ++ recovered w n) (u.settled n ++ recovered u n) (λ i. alike.settled i ++ (if alike.reads i then alike.in_doubt i else [])) rests.reads;
+}
+
+-- ---- what isn't refused
+
+module _ (p : Program) (w : World) (c : Command) (unrefused : refusal p w c ≡ None) where
+  pub replied : reply p w c Fine ≡ done_answer p w c
+  replied = ap (λ r. unwrap_or r (fared_answer p w c (outcome_of w c Fine))) unrefused
+
+  pub done_after : world_after p w c Fine ≡ done_world w c
+  done_after = ap (λ r. option_map_or (λ refused. w) r (fared_world w c (outcome_of w c Fine))) unrefused
+
+-- ---- the world behind a command that is done
+
+-- a command for one device is for no other
+for_no_other : (c : Command) (n : ℕ) → device_of c ≡ Some n → (e : ℕ) → (e == n) ≡ false → IsElsewhere e c
+for_no_other c n own e apart d is = subst (λ k. (e == k) ≡ false) (same n d (sym own ∙ is)) apart
+  where
+    same : (k m : ℕ) → Some k ≡ Some m → k ≡ m
+    same k m h = cc
+
+module _ (p : Program) (w : World) (old new : WorldState) (s : Seen) (c : Command) (n : ℕ) (is : IsWorldOf p w old s) (of : IsCommandOf p c) (below : n < device_count p.decls.items) (own : device_of c ≡ Some n) where
+  -- the command for device n, where nothing outside was called: the world behind it by the device alone
+  pub inside_behind : (o : Outcome) → HoldsAlike n w (world_after p w c o)
+      → ((e : ℕ) → e ≢ n → device_in new e ≡ device_in old e) → new.program ≡ old.program → new.packets ≡ map (spelled p) (world_after p w c o).packets → All (λ us. FitsShape (shape_of p) (state_of_updates (shape_of p) us)) (world_after p w c o).packets
+      → HasDevice p (world_after p w c o) n (device_in new n) (past_in n s) → IsWorldOf p (world_after p w c o) new s
+  inside_behind o alike others program packets fit has =
+      world_behind p w (world_after p w c o) old new s s n is (stepped p w c o of is.causal) (λ e apart. after_agrees p w c o e (for_no_other c n own e apart)) others (λ e f other. record { content = refl; images = λ file image. image }) program packets fit has
+      (rests_alike p w (world_after p w c o) n (past_in n s) alike (is.files n below))
+
+  -- the same, where it isn't refused, by the world that it is done in
+  pub done_behind : (u : World) → world_after p w c Fine ≡ u → HoldsAlike n w u → ((e : ℕ) → e ≢ n → device_in new e ≡ device_in old e) → new.program ≡ old.program → new.packets ≡ map (spelled p) u.packets → All (λ us. FitsShape (shape_of p) (state_of_updates (shape_of p) us)) u.packets
+      → HasDevice p u n (device_in new n) (past_in n s) → IsWorldOf p (world_after p w c Fine) new s
+  done_behind u after alike others program packets fit has =
+      let back = λ (P : World → Type 0) (h : P u). subst P (sym after) h in
+      inside_behind Fine (back (HoldsAlike n w) alike) others program (back (λ x. new.packets ≡ map (spelled p) x.packets) packets) (back (λ x. All (λ us. FitsShape (shape_of p) (state_of_updates (shape_of p) us)) x.packets) fit)
+      (back (λ x. HasDevice p x n (device_in new n) (past_in n s)) has)
+
+-- a command that calls nothing outside does all that a command does
+pub done_does : (old new : WorldState) (c : Command) (a : Answer) → AscendsWhereSet a → ((s : Seen) → CountsBy c (plain_answer a) s s) → new.program ≡ old.program → (o : Outcome) → ((s : Seen) → Shows old.program c o s s) → ((p : Program) (w : World) (s : Seen) → IsWorldOf p w old s → plain_answer a ≡ reply p w c o) → ((p : Program) (w : World) (s : Seen) → IsWorldOf p w old s → IsWorldOf p (world_after p w c o) new s) → DoesInside old new c a
+done_does old new c a ascends counts program o shows answers world tells s = record {
+  program = program;
+  ascends = ascends;
+  counts = counts s;
+  left = λ told. refl;
+  stepped = λ told. record {
+    outcome = o;
+    shows = shows s;
+    answers = λ p w is. answers p w s is;
+    world = λ p w is. world p w s is;
+    restores = λ p w is. within_still p w old c o s s is refl;
+  };
+}
+
+-- one that only tells something leaves the world
+pub told_does : (v : WorldState) (c : Command) (a : Answer) → AscendsWhereSet a → ((s : Seen) → CountsBy c (plain_answer a) s s) → ((w : World) → done_world w c ≡ w) → ((p : Program) (w : World) (s : Seen) → IsWorldOf p w v s → (refusal p w c ≡ None) × (plain_answer a ≡ done_answer p w c)) → DoesInside v v c a
+told_does v c a ascends counts same told =
+    done_does v v c a ascends counts refl Fine (λ s kind. refl)
+    (λ p w s is. (told p w s is).1 ∙ sym (replied p w c (told p w s is).0))
+    (λ p w s is. subst (λ u. IsWorldOf p u v s) (sym (done_after p w c (told p w s is).0 ∙ same w)) is)
+
+-- ---- crashes
+
+module _ (old : WorldState) (n : ℕ) (of : IsCommandOf old.program (command.Crash n)) where
+  crash_unrefused : (p : Program) (w : World) (s : Seen) (x : DeviceState) → IsWorldOf p w old s → device_in old n ≡ Some x → refusal p w (command.Crash n) ≡ None
+  crash_unrefused p w s x is place =
+      let has = device_has p w old s n (Some x) is of place in
+      stop_first p w (command.Crash n) refl (ap not (ap w.up (sym has.1) ∙ has.0.up)) None refl refl
+
+  -- a device that is up is put down
+  pub crash_does : (new : WorldState) (x : DeviceState) → device_in old n ≡ Some x → new ≡ record old { devices = slice_set old.devices n None } → DoesInside old new (command.Crash n) answer.Down
+  crash_does new x place is_new =
+      done_does old new (command.Crash n) answer.Down tt (λ s kind. refl) (ap (λ (v : WorldState). v.program) is_new) Fine (λ s kind. refl)
+      (λ p w s is. sym (replied p w (command.Crash n) (crash_unrefused p w s x is place)))
+      (λ p w s is.
+      done_behind p w old new s (command.Crash n) n is (subst (λ q. IsCommandOf q (command.Crash n)) is.program of) (subst (λ (q : Program). n < device_count q.decls.items) is.program of) refl
+      (put_down w n) (done_after p w (command.Crash n) (crash_unrefused p w s x is place))
+      (record { base = refl; base_number = refl; settled = refl; in_doubt = refl; reads = refl })
+      (λ e other. ap (λ (v : WorldState). device_in v e) is_new ∙ place_elsewhere old.devices n e None other)
+      (ap (λ (v : WorldState). v.program) is_new)
+      (ap (λ (v : WorldState). v.packets) is_new ∙ is.packets) is.fit
+      (subst (λ o. HasDevice p (put_down w n) n o (past_in n s)) (sym (ap (λ (v : WorldState). device_in v n) is_new ∙ place_here old.devices n None (place_below old.devices n x place))) (with_at-same n false w.up)))
+
+-- nothing is taken of a device that is down
+pub none_lent : (old new : WorldState) (n : ℕ) → device_in old n ≡ None → new ≡ record old { devices = slice_set old.devices n None } → new ≡ old
+none_lent old new n none is = is ∙ (λ i. record { program = old.program; devices = none_taken old.devices n none i; packets = old.packets })

@@ -1,0 +1,123 @@
+-- A delivery is a step of the world.
+use Rattle.std.proofs.Common.{◌≡◌, ◌∙◌, ◌<◌, ℕ, List, Option, Some, Result, Ok, Err, Bor, refl, sym, ap, subst, length}
+use Rattle.std.specs.Prelude.{◌^◌, map, slice_get}
+use Rattle.std.specs.Option.{option_copied}
+use Rattle.re_device.specs.Device.{current, logged, with_entry}
+use Rattle.re_device.specs.Stepping.{IsPacketOf}
+use Rattle.re_device.specs.declared.fault.Done.{Done}
+use Rattle.re_terms.specs.Admission.{device_count}
+use Rattle.re_terms.specs.Worlds.{Entered}
+use Rattle.re_terms.specs.declared.command.Answer.TheVariants as answer
+use Rattle.re_terms.specs.declared.command.Command.TheVariants as command
+use Rattle.re_terms.specs.declared.entry.Entry.TheVariants as entry
+use Rattle.re_terms.specs.declared.program.Program.{Program}
+use Rattle.re_world.proofs.CommitKinds.{deliver_commit}
+use Rattle.re_world.proofs.Doing.{commit_does}
+use Rattle.re_world.proofs.Delivered.{all_at, kept_at, none_there, one_there, packet_of, packet_short}
+use Rattle.re_world.proofs.Inside.{down_does, lacks_first, memory_does, refused_does}
+use Rattle.re_world.proofs.Lent.{back_others, back_packets, back_place, back_program, lent_none, no_some}
+use Rattle.re_outside.specs.Listed.{Listed}
+use Rattle.re_terms.proofs.ProgramShapes.{program_shape}
+use Rattle.re_terms.specs.Shapes.{FitsShape, IsShape, shape_of}
+use Rattle.re_terms.specs.Spellings.{packet_bytes}
+use Rattle.re_terms.specs.declared.replicated.RState.{RState}
+use Rattle.re_terms.specs.declared.replicated.Shape.{Shape}
+use Rattle.re_world.specs.State.{IsDeviceIn, IsPacket, WorldState, seen_of}
+use Rattle.re_wire.specs.Reading.{Fails}
+use Rattle.re_wire.specs.declared.fault.WireFault.{WireFault}
+use Rattle.re_wire.specs.declared.fault.WireFault.TheVariants as wire
+use Rattle.re_world.specs.declared.world.World.TheInside.{Inside}
+use Rattle.re_world.specs.Stepping.{DoesCommand}
+use Rattle.re_world.proofs.world.World.deliver.Goals as goal
+
+-- the packets as they are kept
+packets_are : (v : WorldState) (w : Inside) → seen_of w ≡ v → v.packets ≡ map (λ (bytes : Listed ℕ). bytes.items) w.packets.items
+packets_are v w same = ap (λ (u : WorldState). u.packets) (sym same)
+
+-- the one at this place
+at_place : (o : Option (Bor (Listed ℕ))) (b : Bor (Listed ℕ)) (kept : List (Listed ℕ)) (k : ℕ) → option_copied o ≡ slice_get kept k → o ≡ Some b → slice_get kept k ≡ Some b.now
+at_place o b kept k found is = sym found ∙ ap option_copied is
+
+read_is : (state r : RState) → ◌≡◌ {A = Result RState ℕ} (Ok r) (Ok state) → state ≡ r
+read_is state r e = cc
+
+never_refused : (r : RState) (fault : WireFault) (place : ℕ) → fault ≡ wire.At place → Fails {X = RState} fault (Ok r) → ⊥
+never_refused r fault place is fails = refuted (subst (λ f. Fails {X = RState} f (Ok r)) is fails)
+  where
+    refuted : ◌≡◌ {A = Result RState ℕ} (Ok r) (Err place) → ⊥
+    refuted e = cc
+
+pub returns-in_default : goal.returns-in_default
+returns-in_default g c =
+    let v = c.args.self.now in
+    refused_does v (command.Deliver c.args.packet c.args.number) (answer.No 28) tt (λ s kind. refl) refl
+    (λ p w s is. lacks_first p w (command.Deliver c.args.packet c.args.number) (none_there p w v s is c.self.inside.packets.items (packets_are v c.self.inside c.self.view_is) c.args.packet (sym c.get.ensures ∙ ap option_copied c.in_default.is)))
+    g.O.Outside.tells (g.O.Outside.seen c.args.out.now)
+
+pub decode-requires-clause-shape : goal.decode-requires-clause-shape
+decode-requires-clause-shape g c = subst IsShape (sym c.self.invariant.shape) (program_shape c.self.inside.program c.self.invariant.is_program)
+
+pub decode-requires-clause-limit : goal.decode-requires-clause-limit
+decode-requires-clause-limit g c =
+    let at = kept_at (seen_of c.self.inside) c.self.inside.packets.items c.args.packet c.in-Some.bytes.now refl (at_place c.get.result c.in-Some.bytes c.self.inside.packets.items c.args.packet c.get.ensures c.in-Some.is) in
+    subst (λ (l : List ℕ). length l < 2 ^ 32) (sym c.as_slice.ensures) (packet_short c.self.inside.program c.in-Some.bytes.now.items c.self.invariant.is_program (all_at (IsPacket c.self.inside.program) (seen_of c.self.inside).packets c.args.packet c.in-Some.bytes.now.items c.self.invariant.packets at))
+
+pub returns-in-Err-Memory : goal.returns-in-Err-Memory
+returns-in-Err-Memory g c = memory_does c.args.self.now (command.Deliver c.args.packet c.args.number) g.O.Outside.tells (g.O.Outside.seen c.args.out.now)
+
+pub unreachable-requires : goal.unreachable-requires
+unreachable-requires g c =
+    let at = kept_at (seen_of c.self.inside) c.self.inside.packets.items c.args.packet c.in-Some.bytes.now refl (at_place c.get.result c.in-Some.bytes c.self.inside.packets.items c.args.packet c.get.ensures c.in-Some.is) in
+    let packet : IsPacket c.self.inside.program c.in-Some.bytes.now.items = all_at (IsPacket c.self.inside.program) (seen_of c.self.inside).packets c.args.packet c.in-Some.bytes.now.items c.self.invariant.packets at in
+    never_refused packet.0 c.in-Err-At.field-0 c.in-Err-At.field-0-0 c.in-Err-At.field-0-is (c.in-Err-At.ensures.only packet.0 (subst (λ q. FitsShape q packet.0) (sym c.self.invariant.shape) packet.1) (c.as_slice.ensures ∙ packet.2 ∙ ap (λ (q : Shape). packet_bytes q.devices packet.0) (sym c.self.invariant.shape)))
+
+pub returns-in_default-lend : goal.returns-in_default-lend
+returns-in_default-lend g c =
+    let v = c.args.self.now in
+    let s = g.O.Outside.seen c.args.out.now in
+    let place = sym c.lend.ensures.device ∙ no_some c.lend.result c.in_default-lend.not-Some in
+    subst (λ u. DoesCommand g.O.Outside.tells v u (command.Deliver c.args.packet c.args.number) (answer.No 26) s s) (sym (lent_none v c.lend.new.self c.args.number c.lend.ensures.rest place))
+    (down_does v (command.Deliver c.args.packet c.args.number) c.args.number c.requires place (λ w. refl) (λ p w t is. one_there p w v t is c.self.inside.packets.items (packets_are v c.self.inside c.self.view_is) c.args.packet c.in-Some.bytes.now (at_place c.get.result c.in-Some.bytes c.self.inside.packets.items c.args.packet c.get.ensures c.in-Some.is)) g.O.Outside.tells s)
+
+pub give_back-requires-clause-placed : goal.give_back-requires-clause-placed
+give_back-requires-clause-placed g c =
+    let placed : IsDeviceIn c.args.self.now.program c.args.number c.in-Some-lend.device = c.in-Some-lend.ensures.placed in
+    record {
+      program = c.take_merge-taken.ensures.program ∙ placed.program ∙ sym (ap (λ (u : WorldState). u.program) c.lend.ensures.rest);
+      number_is = c.take_merge-taken.ensures.number ∙ placed.number_is;
+    }
+
+pub returns : goal.returns
+returns g c =
+    let v = c.args.self.now in
+    let n = c.args.number in
+    let x = c.in-Some-lend.device in
+    let x' = c.take_merge-taken.new.device in
+    let placed : IsDeviceIn v.program n x = c.in-Some-lend.ensures.placed in
+    let below = subst (λ k. n < k) (sym c.lend.ensures.count) c.requires in
+    commit_does (IsPacketOf x c.args.packet c.in-Ok.state) (λ (d : Done). Entered d.number) (current (with_entry x.memory (logged x.memory (entry.Merge c.in-Ok.state)))) g.O.Outside.tells v c.give_back.new.self x x' (λ k. command.Deliver c.args.packet k) c.entered.result (g.O.Outside.seen c.args.out.now) (g.O.Outside.seen c.take_merge-taken.new.out) c.take_merge-taken.result n placed.number_is
+    (record {
+      of = c.requires;
+      below = c.requires;
+      device_is = refl;
+      commit = λ p w. deliver_commit p w n c.args.packet;
+      place = sym c.lend.ensures.device ∙ c.in-Some-lend.is;
+      number = c.take_merge-taken.ensures.number ∙ placed.number_is;
+      new_place = back_place v c.lend.new.self c.give_back.new.self n x' c.lend.ensures.rest c.give_back.ensures below;
+      other_places = back_others v c.lend.new.self c.give_back.new.self n x' c.lend.ensures.rest c.give_back.ensures;
+      program = back_program v c.lend.new.self c.give_back.new.self n x' c.lend.ensures.rest c.give_back.ensures;
+      packets = back_packets v c.lend.new.self c.give_back.new.self n x' c.lend.ensures.rest c.give_back.ensures;
+      answer = c.entered.ensures.answer;
+      ascends = c.entered.ensures.ascends;
+      cause = c.take_merge-taken.ensures.cause;
+      others = c.take_merge-taken.ensures.others;
+      left = c.take_merge-taken.ensures.left;
+      commits = c.take_merge-taken.ensures.commits c.args.packet;
+      holds = λ p w is.
+          let program : c.self.inside.program ≡ p = ap (λ (u : WorldState). u.program) c.self.view_is ∙ is.program in
+          packet_of p w v (g.O.Outside.seen c.args.out.now) x c.args.packet c.in-Some.bytes.now.items c.in-Ok.state is (subst (λ (k : ℕ). k < device_count p.decls.items) (sym placed.number_is) (subst (λ (q : Program). n < device_count q.decls.items) is.program c.requires)) (kept_at v c.self.inside.packets.items c.args.packet c.in-Some.bytes.now (packets_are v c.self.inside c.self.view_is) (at_place c.get.result c.in-Some.bytes c.self.inside.packets.items c.args.packet c.get.ensures c.in-Some.is))
+          (λ r fits same. read_is c.in-Ok.state r (c.in-Ok.ensures.only r (subst (λ q. FitsShape q r) (sym (c.self.invariant.shape ∙ ap shape_of program)) fits) (c.as_slice.ensures ∙ same ∙ ap (λ (q : Shape). packet_bytes q.devices r) (sym (c.self.invariant.shape ∙ ap shape_of program)))));
+      reads = λ told f. g.met.O.Outside.reads_left c.take_merge-taken.new.out n f (g.met.O.Outside.tells_always c.take_merge-taken.new.out ∙ told);
+      enters = λ y. refl;
+      counts = λ y none. none;
+    })

@@ -1,0 +1,81 @@
+-- A restart is a step of the world.
+use Rattle.std.proofs.Common.{◌≡◌, ◌∙◌, ◌<◌, ℕ, Bool, true, false, Option, None, Some, Result, Ok, Err, Bor, refl, sym, ap, subst, length}
+use Rattle.std.specs.Prelude.{IfOk, ◌≢◌, slice_set}
+use Rattle.std.specs.Option.{is_some, option_copied}
+use mathlib.Core.Bool.{true≢false}
+use Rattle.re_compact.specs.declared.fault.OpenFault.{OpenFault}
+use Rattle.re_compact.specs.declared.fault.OpenFault.TheVariants as unopened
+use Rattle.re_device.specs.Device.{DeviceState}
+use Rattle.re_outside.specs.Outside.{Seen}
+use Rattle.re_record.specs.Restoring.{Opened}
+use Rattle.re_terms.specs.Admission.{device_count}
+use Rattle.re_terms.specs.declared.command.Answer.TheVariants as answer
+use Rattle.re_terms.specs.declared.command.Command.TheVariants as command
+use Rattle.re_terms.specs.declared.program.Program.{Program}
+use Rattle.re_world.proofs.Lent.{place_elsewhere, place_here, placed_in}
+use Rattle.re_world.proofs.Restarting.{OpeningFacts, opened_does, unopened_does, up_does}
+use Rattle.re_world.specs.State.{WorldState, device_in, seen_of}
+use Rattle.re_world.specs.Stepping.{DoesCommand}
+use Rattle.re_world.proofs.world.World.restart.Goals as goal
+
+-- a device that is there
+some_there : {T : Type 0} (o : Option T) → true ≡ is_some o → (x : T) × (o ≡ Some x)
+some_there None is = absurd (true≢false is)
+some_there (Some x) is = (x, refl)
+
+-- none is there
+none_there : {T : Type 0} (o : Option T) → false ≡ is_some o → o ≡ None
+none_there None is = refl
+none_there (Some x) is = absurd (true≢false (sym is))
+
+pub returns-then-is_some : goal.returns-then-is_some
+returns-then-is_some g c =
+    let found = some_there c.device.result (sym c.if-is_some.true ∙ c.is_some.ensures) in
+    up_does c.args.self.now c.args.number found.0.now c.requires (sym c.device.ensures ∙ ap option_copied found.1) g.O.Outside.tells (g.O.Outside.seen c.args.out.now)
+
+pub returns-in-Ok : goal.returns-in-Ok
+returns-in-Ok g c =
+    let w = c.self.inside in
+    let v = seen_of w in
+    let n = c.args.number in
+    let x = c.in-Ok.device in
+    let before = g.O.Outside.seen c.args.out.now in
+    let now = g.O.Outside.seen c.open_outside.new.out in
+    let new = c.give_back.new.self in
+    let below : n < device_count w.program.decls.items = subst (λ (u : WorldState). n < device_count u.program.decls.items) (sym c.self.view_is) c.requires in
+    let place : device_in v n ≡ None = subst (λ (u : WorldState). device_in u n ≡ None) (sym c.self.view_is) (sym c.device.ensures ∙ ap option_copied (none_there c.device.result (sym c.if-is_some.false ∙ c.is_some.ensures))) in
+    let back : new ≡ record v { devices = slice_set v.devices n (Some x) } = subst (λ (u : WorldState). new ≡ record u { devices = slice_set u.devices n (Some x) }) (sym c.self.view_is) c.give_back.ensures in
+    let there : n < length v.devices = subst (λ k. n < k) (sym c.self.invariant.count) below in
+    let facts : OpeningFacts g.O.Outside.tells v n before now = record {
+      is_program = c.self.invariant.is_program;
+      below = below;
+      place = place;
+      others = c.in-Ok.ensures.others;
+      left = c.in-Ok.ensures.left;
+      moments = c.in-Ok.ensures.each_moment;
+      reads = λ told o. c.in-Ok.ensures.reads o told;
+    } in
+    subst (λ u. DoesCommand g.O.Outside.tells u new (command.Restart n) (answer.Up c.number-entries.result) before now) c.self.view_is
+    (opened_does g.O.Outside.tells v n before now facts x new c.number-entries.result c.number-entries.ensures c.in-Ok.ensures.opened c.in-Ok.ensures.cause
+    (ap (λ (u : WorldState). u.program) back) (ap (λ (u : WorldState). u.packets) back) (ap (λ (u : WorldState). device_in u n) back ∙ place_here v.devices n (Some x) there) (λ e other. ap (λ (u : WorldState). device_in u e) back ∙ place_elsewhere v.devices n e (Some x) other)
+    c.in-Ok.ensures.settled c.in-Ok.ensures.stands (λ told f. g.met.O.Outside.reads_left c.open_outside.new.out n f (g.met.O.Outside.tells_always c.open_outside.new.out ∙ told)))
+
+pub returns-in-Err : goal.returns-in-Err
+returns-in-Err g c =
+    let w = c.self.inside in
+    let v = seen_of w in
+    let n = c.args.number in
+    let before = g.O.Outside.seen c.args.out.now in
+    let now = g.O.Outside.seen c.open_outside.new.out in
+    let facts : OpeningFacts g.O.Outside.tells v n before now = record {
+      is_program = c.self.invariant.is_program;
+      below = subst (λ (u : WorldState). n < device_count u.program.decls.items) (sym c.self.view_is) c.requires;
+      place = subst (λ (u : WorldState). device_in u n ≡ None) (sym c.self.view_is) (sym c.device.ensures ∙ ap option_copied (none_there c.device.result (sym c.if-is_some.false ∙ c.is_some.ensures)));
+      others = c.in-Err.ensures.others;
+      left = c.in-Err.ensures.left;
+      moments = c.in-Err.ensures.each_moment;
+      reads = λ told o. c.in-Err.ensures.reads o told;
+    } in
+    subst (λ u. DoesCommand g.O.Outside.tells u u (command.Restart n) c.unopened.result before now) c.self.view_is
+    (unopened_does g.O.Outside.tells v n before now facts c.in-Err.fault c.unopened.result c.unopened.ensures.answer c.unopened.ensures.ascends c.in-Err.ensures.cause
+    (λ told file at same. c.in-Err.ensures.bad file at told (ap Err same)) (λ told same. c.in-Err.ensures.other told (ap Err same)))

@@ -1,0 +1,104 @@
+-- What a command does to the devices of a program, their packets and their files: one step of each world that they are.
+-- Read against: on `device a; var x: int = 0;` the turn x = 5 over a disk that works is answered ok 1, no count of faults rises, and the world has one settled entry more. Where the fourth call of its commit fails, a's count rises and no other, the answer is no 33, and the entry is in doubt; a turn then is answered no 34 at 4.
+use Rattle.std.specs.Prelude.{◌≡◌, ◌==◌, ℕ, Bool, true, false, List, Some, slice_get}
+use Rattle.re_compact.specs.declared.fault.OpenFault.{OpenFault}
+use Rattle.re_compact.specs.declared.fault.OpenFault.TheVariants as unopened
+use Rattle.re_device.specs.Device.{DeviceState, current}
+use Rattle.re_outside.specs.Moment.{Throughout}
+use Rattle.re_outside.specs.Outside.{FaultKind, Rose, Seen, content_in}
+use Rattle.re_outside.specs.Port.{disk_faults, other_faults, past_in}
+use Rattle.re_outside.specs.Trace.{IsJointImage}
+use Rattle.re_print.specs.AnswerTexts.{AscendsWhereSet}
+use Rattle.re_record.specs.Stores as stores
+use Rattle.re_record.specs.Stores.{HasStore}
+use Rattle.re_terms.specs.DeviceWorlds.{BadStore, Failed, Fine, Memory, OtherProgram, Outcome, World, device_of, reply, world_after}
+use Rattle.re_terms.specs.Worlds.{BadFile, PlainAnswer, Refused, plain_answer}
+use Rattle.re_terms.specs.SignalWords.{replicated_place}
+use Rattle.re_terms.specs.declared.command.Answer.{Answer}
+use Rattle.re_terms.specs.declared.command.Answer.TheVariants as answer
+use Rattle.re_terms.specs.declared.command.Command.{Command}
+use Rattle.re_terms.specs.declared.command.Command.TheVariants as command
+use Rattle.re_terms.specs.declared.program.Program.{Program}
+use Rattle.re_terms.specs.declared.replicated.RCell.TheVariants as cell
+use Rattle.re_world.specs.Images.{Restores}
+use Rattle.re_world.specs.Standing.{IsWorldOf}
+use Rattle.re_world.specs.State.{WorldState}
+
+-- ---- what the outside shows
+
+-- no count of faults has changed
+abbrev pub NoneRose : Seen → Seen → Type 0
+NoneRose before now = (kind : FaultKind) → now.faults kind ≡ before.faults kind
+
+-- the count of the command's device has risen, and no other has changed
+pub record OwnRose (c : Command) (before now : Seen) : Type 0 where
+  pub device : ℕ
+  pub device_is : device_of c ≡ Some device
+  pub rose : Rose (disk_faults device before) (disk_faults device now)
+  pub others : other_faults device now ≡ other_faults device before
+
+-- the files of the device that the command restarts read as this
+pub record ReadsAs (p : Program) (c : Command) (stored : stores.Stored) (before : Seen) : Type 0 where
+  pub device : ℕ
+  pub command_is : c ≡ command.Restart device
+  pub store : HasStore p device (content_in before device 0) (content_in before device 1) stored
+
+-- A command fared so, as the outside shows it: a file call failed exactly where the count of the command's device has risen, and a restart that was hindered otherwise found a store that is so.
+abbrev pub Shows : Program → Command → Outcome → Seen → Seen → Type 0
+Shows p c Fine before now = NoneRose before now
+Shows p c Memory before now = NoneRose before now
+Shows p c (Failed at gate_open) before now = OwnRose c before now
+Shows p c (BadStore file place) before now = NoneRose before now × ReadsAs p c (stores.Bad file place) before
+Shows p c OtherProgram before now = NoneRose before now × ReadsAs p c stores.OtherProgram before
+
+-- the refusal of a call of the disk that failed
+abbrev pub is_disk_refusal : PlainAnswer → Bool
+is_disk_refusal (Refused code) = code == 33
+is_disk_refusal a = false
+
+-- the counts of faults, by an answer: with the code 33 that of the command's device has risen, and no other has changed; with any other answer none has
+abbrev pub CountsIf : Bool → Command → Seen → Seen → Type 0
+CountsIf true c before now = OwnRose c before now
+CountsIf false c before now = NoneRose before now
+
+abbrev pub CountsBy : Command → PlainAnswer → Seen → Seen → Type 0
+CountsBy c a before now = CountsIf (is_disk_refusal a) c before now
+
+-- ---- a step
+
+-- each file that a stop may leave at this moment of the command restores to the world before it
+abbrev pub RestoresWithin : Program → World → Command → Outcome → Seen → Seen → Type 0
+RestoresWithin p w c o before now = Throughout (past_in 0 before) (past_in 0 now) (λ m. (files : ℕ → ℕ → List ℕ) → IsJointImage m files → Restores p w (Some (record { asked = c; outcome = o })) files)
+
+-- The command was one step of each world that these devices, packets and files are, by one outcome that the outside shows. A stop at any moment of it leaves files that restore to the world before it.
+pub record HasStepped (old new : WorldState) (c : Command) (a : PlainAnswer) (before now : Seen) : Type 0 where
+  pub outcome : Outcome
+  pub shows : Shows old.program c outcome before now
+  pub answers : (p : Program) (w : World) → IsWorldOf p w old before → a ≡ reply p w c outcome
+  pub world : (p : Program) (w : World) → IsWorldOf p w old before → IsWorldOf p (world_after p w c outcome) new now
+  pub restores : (p : Program) (w : World) → IsWorldOf p w old before → RestoresWithin p w c outcome before now
+
+-- all that a command does, over an outside that tells what is seen of it or doesn't
+pub record DoesCommand (tells : Bool) (old new : WorldState) (c : Command) (a : Answer) (before now : Seen) : Type 0 where
+  pub program : new.program ≡ old.program
+  pub ascends : AscendsWhereSet a
+  pub counts : CountsBy c (plain_answer a) before now
+  pub left : tells ≡ true → now.left ≡ before.left
+  pub stepped : tells ≡ true → HasStepped old new c (plain_answer a) before now
+
+-- the same of a command that calls nothing outside
+abbrev pub DoesInside : WorldState → WorldState → Command → Answer → Type 0
+DoesInside old new c a = (tells : Bool) (s : Seen) → DoesCommand tells old new c a s s
+
+-- what is answered of a set: its pairs, or that memory ran out
+abbrev pub IsSetOrMemory : DeviceState → ℕ → Answer → Type 0
+IsSetOrMemory d id (answer.Members pairs) = slice_get (current d.memory).state.rep.cells.items (replicated_place d.memory.program.decls.items id) ≡ Some (cell.Set pairs)
+IsSetOrMemory d id (answer.No code) = code ≡ 36
+IsSetOrMemory d id a = ⊥
+
+-- the refusal of an opening, as an answer
+abbrev pub unopened_as : OpenFault → PlainAnswer
+unopened_as unopened.Memory = Refused 36
+unopened_as unopened.Disk = Refused 33
+unopened_as (unopened.BadStore file at) = BadFile file at
+unopened_as unopened.OtherProgram = Refused 39

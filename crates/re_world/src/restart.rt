@@ -1,0 +1,46 @@
+//! A device that is opened again.
+ghost use Rattle.std.specs.Prelude.{◌≡◌};
+ghost use Rattle.re_print.specs.AnswerTexts.{AscendsWhereSet};
+ghost use Rattle.re_terms.specs.Admission.{IsCommandOf};
+ghost use Rattle.re_terms.specs.Worlds.{plain_answer};
+ghost use Rattle.re_world.specs.Stepping.{DoesCommand, unopened_as};
+
+use crate::World;
+use crate::answers::{DISK, MEMORY, OTHER_PROGRAM, UP};
+use crate::opening::open_outside;
+use re_compact::OpenFault;
+use re_outside::Outside;
+use re_terms::{Answer, Command};
+
+/// The answer to a restart whose opening is refused.
+fn unopened(fault: OpenFault) -> Answer
+    ensures answer { plain_answer result ≡ unopened_as fault }
+    ensures ascends { AscendsWhereSet result }
+{
+    match fault {
+        OpenFault::Memory => Answer::No(MEMORY),
+        OpenFault::Disk => Answer::No(DISK),
+        OpenFault::BadStore { file, at } => Answer::BadFile { file, at },
+        OpenFault::OtherProgram => Answer::No(OTHER_PROGRAM),
+    }
+}
+
+impl World {
+    /// Opens a device that is down.
+    pub(crate) fn restart<O: Outside>(&mut self, out: &mut O, number: u8) -> Answer
+        requires { IsCommandOf self.old.program (Command.Restart number) }
+        ensures { DoesCommand O.tells self.old self.new (Command.Restart number) result (O.seen out.old) (O.seen out.new) }
+    {
+        if self.device(number).is_some() {
+            return Answer::No(UP);
+        }
+        match open_outside(self.alloc, out, &self.program, number) {
+            Ok(device) => {
+                let entries = device.number();
+                self.give_back(number, device);
+                Answer::Up(entries)
+            }
+            Err(fault) => unopened(fault),
+        }
+    }
+}
