@@ -1,6 +1,6 @@
 -- What the files of all devices open to at one moment, and the update log behind them.
 -- Read against: on `device a; device b; counter c;`, with one settled add of a and a second one under way, files of a that hold both open to two entries, and the log behind all files has both updates;
--- files of a that hold the first alone open to one entry, and the log has the first alone. Nothing of b's files has to do with it.
+-- files of a that hold the first alone open to one entry, and the log has the first alone. What b's files hold doesn't matter here.
 use Rattle.std.specs.Prelude.{◌≡◌, ◌⊎◌, ℕ, ◌+◌, ◌<◌, List, ◌++◌, length, map, take, Option}
 use Rattle.std.specs.List.{range_with_len}
 use Rattle.re_record.specs.Represents.{Represents}

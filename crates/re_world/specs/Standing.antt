@@ -1,6 +1,6 @@
 -- Where the devices of a program, their packets and their files stand: as one world of the definitions has it.
 -- Read against: on `device a; counter c;` right after the opening of blank files the world is the one of blank files, and the device stands on a store of generation 1.
--- After a turn whose third call failed, a's files open to no entry or to one, whatever a stop leaves; where the record's gate reads as open they read as one.
+-- After a turn whose third call failed, a's files open to no entry or to one, whatever a stop leaves; where the record's gate reads as open they open to one, as they read.
 use Rattle.std.specs.Prelude.{◌≡◌, ◌⊎◌, ℕ, ◌<◌, false, List, ◌++◌, map, Option, None, Some}
 use Rattle.std.specs.List.{All}
 use Rattle.re_device.specs.Device.{DeviceState}

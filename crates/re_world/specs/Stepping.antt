@@ -43,7 +43,7 @@ pub record ReadsAs (p : Program) (c : Command) (stored : stores.Stored) (before 
   pub command_is : c ≡ command.Restart device
   pub store : HasStore p device (content_in before device 0) (content_in before device 1) stored
 
--- A command fared so, as the outside shows it: a file call failed exactly where the count of the command's device has risen, and a restart that was hindered otherwise found a store that is so.
+-- A command fared so, as the outside shows it: a file call failed exactly where the count of the command's device has risen, and a restart that is refused for its store found files that read so.
 abbrev pub Shows : Program → Command → Outcome → Seen → Seen → Type 0
 Shows p c Fine before now = NoneRose before now
 Shows p c Memory before now = NoneRose before now
@@ -51,26 +51,27 @@ Shows p c (Failed at gate_open) before now = OwnRose c before now
 Shows p c (BadStore file place) before now = NoneRose before now × ReadsAs p c (stores.Bad file place) before
 Shows p c OtherProgram before now = NoneRose before now × ReadsAs p c stores.OtherProgram before
 
--- the refusal of a call of the disk that failed
+-- the answer that says that a file call failed
 abbrev pub is_disk_refusal : PlainAnswer → Bool
 is_disk_refusal (Refused code) = code == 33
 is_disk_refusal a = false
 
--- the counts of faults, by an answer: with the code 33 that of the command's device has risen, and no other has changed; with any other answer none has
+-- where a file call failed the count of the command's device has risen, and no other has changed; else none has
 abbrev pub CountsIf : Bool → Command → Seen → Seen → Type 0
 CountsIf true c before now = OwnRose c before now
 CountsIf false c before now = NoneRose before now
 
+-- the same by the answer, which has the code 33 where a file call failed
 abbrev pub CountsBy : Command → PlainAnswer → Seen → Seen → Type 0
 CountsBy c a before now = CountsIf (is_disk_refusal a) c before now
 
 -- ---- a step
 
--- each file that a stop may leave at this moment of the command restores to the world before it
+-- at each moment of the command the files of all devices that a stop may leave restore to the world before it, with the command under way
 abbrev pub RestoresWithin : Program → World → Command → Outcome → Seen → Seen → Type 0
 RestoresWithin p w c o before now = Throughout (past_in 0 before) (past_in 0 now) (λ m. (files : ℕ → ℕ → List ℕ) → IsJointImage m files → Restores p w (Some (record { asked = c; outcome = o })) files)
 
--- The command was one step of each world that these devices, packets and files are, by one outcome that the outside shows. A stop at any moment of it leaves files that restore to the world before it.
+-- The command was one step of each world that these devices, packets and files are, by one outcome that the outside shows. A stop at any moment of it leaves files that restore to the world before it, with all entries of the command's record or none.
 pub record HasStepped (old new : WorldState) (c : Command) (a : PlainAnswer) (before now : Seen) : Type 0 where
   pub outcome : Outcome
   pub shows : Shows old.program c outcome before now

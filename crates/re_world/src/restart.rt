@@ -1,8 +1,11 @@
 //! A device that is opened again.
-ghost use Rattle.std.specs.Prelude.{◌≡◌};
+ghost use Rattle.std.specs.Prelude.{◌≡◌, ℕ, true};
+ghost use Rattle.re_outside.specs.Outside.{content_in};
 ghost use Rattle.re_print.specs.AnswerTexts.{AscendsWhereSet};
+ghost use Rattle.re_record.specs.Stores as stores;
+ghost use Rattle.re_record.specs.Stores.{HasStore};
 ghost use Rattle.re_terms.specs.Admission.{IsCommandOf};
-ghost use Rattle.re_terms.specs.Worlds.{plain_answer};
+ghost use Rattle.re_terms.specs.Worlds.{BadFile, Refused, plain_answer};
 ghost use Rattle.re_world.specs.Stepping.{DoesCommand, unopened_as};
 
 use crate::World;
@@ -29,7 +32,9 @@ impl World {
     /// Opens a device that is down.
     pub(crate) fn restart<O: Outside>(&mut self, out: &mut O, number: u8) -> Answer
         requires { IsCommandOf self.old.program (Command.Restart number) }
-        ensures { DoesCommand O.tells self.old self.new (Command.Restart number) result (O.seen out.old) (O.seen out.new) }
+        ensures does { DoesCommand O.tells self.old self.new (Command.Restart number) result (O.seen out.old) (O.seen out.new) }
+        ensures bad { (file at : ℕ) → O.tells ≡ true → plain_answer result ≡ BadFile file at → HasStore self.old.program number (content_in (O.seen out.old) number 0) (content_in (O.seen out.old) number 1) (stores.Bad file at) }
+        ensures other { O.tells ≡ true → plain_answer result ≡ Refused 39 → HasStore self.old.program number (content_in (O.seen out.old) number 0) (content_in (O.seen out.old) number 1) stores.OtherProgram }
     {
         if self.device(number).is_some() {
             return Answer::No(UP);

@@ -16,7 +16,8 @@ ghost use Rattle.re_terms.specs.DeviceWorlds.{start_world};
 ghost use Rattle.re_terms.specs.Programs.{IsProgram};
 ghost use Rattle.re_terms.specs.Runs.{PlainState};
 ghost use Rattle.re_terms.specs.Updates.{Update};
-ghost use Rattle.re_terms.specs.Worlds.{plain_answer};
+ghost use Rattle.re_terms.specs.Worlds.{BadFile, Refused, plain_answer};
+ghost use Rattle.re_terms.specs.declared.command.Command.TheVariants as command;
 ghost use Rattle.re_world.specs.Images.{Restores};
 ghost use Rattle.re_world.specs.Opening.{OpenBefore};
 ghost use Rattle.re_world.specs.Standing.{IsWorldOf};
@@ -69,7 +70,8 @@ impl World {
         requires program { IsProgram p }
         requires text { length (program_text p) ≤ 65536 }
         ensures program { IfOk result (λ v. v.program ≡ p) }
-        // The files stand for a world, and this is it. A stop at any moment leaves files that stand for it.
+        // Where the files at the call are synced and one log stands behind them, what is opened is the world that they stand for, and a stop
+        // at any moment leaves files that stand for it.
         ensures world { (base : ℕ → PlainState) (base_number : ℕ → ℕ) (log : List Update) → O.tells ≡ true → StartsAt p base base_number log (past_in 0 (O.seen out.old)) → IfOk result (λ v. IsWorldOf p (start_world p base base_number log) v (O.seen out.new)) }
         ensures restores { (base : ℕ → PlainState) (base_number : ℕ → ℕ) (log : List Update) → O.tells ≡ true → StartsAt p base base_number log (past_in 0 (O.seen out.old)) → Throughout (past_in 0 (O.seen out.old)) (past_in 0 (O.seen out.new)) (λ now. (files : ℕ → ℕ → List ℕ) → IsJointImage now files → Restores p (start_world p base base_number log) None files) }
 
@@ -102,18 +104,22 @@ impl World {
 
     /// Does a command, and gives its answer.
     ///
-    /// The condition is that the command is one of the program. The refusals are codes, and docs/SESSION.md has them all with their causes, in the order in
-    /// which they come; want of memory, 36, may come in the place of any other answer. A refused command changes nothing, but for 33: then
-    /// a call of the device's disk failed, the device's memory is as before, its files hold the entries of the record or not, and it has
-    /// stopped until it is crashed and restarted; a restart leaves it down.
+    /// The condition is that the command is one of the program. docs/SESSION.md has the refusals with their causes, in the order in which
+    /// they come; want of memory, 36, may come in the place of any other answer. A refused command leaves the devices, the packets and
+    /// what the files open to; the file calls of a refused restart stay made. Only 33 says that a call of the device's disk failed: a restart
+    /// then leaves the device down; after any other command its memory is as before, its files hold all entries that were to be
+    /// settled or none of them, and it is stopped until it is crashed and restarted.
     pub fn step<O: Outside>(&mut self, out: &mut O, c: Command) -> Answer
         requires { IsCommandOf self.old.program c }
         ensures program { self.new.program ≡ self.old.program }
         // Where the outside tells what is seen, the command is one step of each world that these devices, packets and files are, and a stop at
-        // any moment leaves files that restore to it.
+        // any moment leaves files that restore to the world before it, with the command under way.
         ensures stepped { O.tells ≡ true → HasStepped self.old self.new c (plain_answer result) (O.seen out.old) (O.seen out.new) }
         // The code 33 comes exactly where the count of the device's disk rose, and no other count changes.
         ensures counts { CountsBy c (plain_answer result) (O.seen out.old) (O.seen out.new) }
+        // What a restart is refused with for its store is what the device's files are to the program, as they read at the call.
+        ensures bad { (d file at : ℕ) → O.tells ≡ true → c ≡ command.Restart d → plain_answer result ≡ BadFile file at → HasStore self.old.program d (content_in (O.seen out.old) d 0) (content_in (O.seen out.old) d 1) (stores.Bad file at) }
+        ensures other { (d : ℕ) → O.tells ≡ true → c ≡ command.Restart d → plain_answer result ≡ Refused 39 → HasStore self.old.program d (content_in (O.seen out.old) d 0) (content_in (O.seen out.old) d 1) stores.OtherProgram }
         ensures left { O.tells ≡ true → (O.seen out.new).left ≡ (O.seen out.old).left }
         ensures ascends { AscendsWhereSet result }
     {
@@ -126,7 +132,9 @@ impl World {
         requires name { blank.name ≡ L.name }
         requires parts { blank.parts ≡ L.parts }
         requires one { 0 < L.parts }
-        ensures { DoesCommand O.tells self.old self.new c result (O.seen out.old) (O.seen out.new) }
+        ensures does { DoesCommand O.tells self.old self.new c result (O.seen out.old) (O.seen out.new) }
+        ensures bad { (d file at : ℕ) → O.tells ≡ true → c ≡ command.Restart d → plain_answer result ≡ BadFile file at → HasStore self.old.program d (content_in (O.seen out.old) d 0) (content_in (O.seen out.old) d 1) (stores.Bad file at) }
+        ensures other { (d : ℕ) → O.tells ≡ true → c ≡ command.Restart d → plain_answer result ≡ Refused 39 → HasStore self.old.program d (content_in (O.seen out.old) d 0) (content_in (O.seen out.old) d 1) stores.OtherProgram }
     {
         let mut steps = Steps::<L>::new(blank);
         match c {

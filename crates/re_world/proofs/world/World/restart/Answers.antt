@@ -1,12 +1,15 @@
 -- A restart is a step of the world.
-use Rattle.std.proofs.Common.{◌≡◌, ◌∙◌, ◌<◌, ℕ, Bool, true, false, Option, None, Some, Result, Ok, Err, Bor, refl, sym, ap, subst, length}
+use Rattle.std.proofs.Common.{◌≡◌, ◌∙◌, ◌<◌, ℕ, Bool, true, false, Option, None, Some, Result, Ok, Err, Bor, refl, sym, ap, subst, length, arith}
 use Rattle.std.specs.Prelude.{IfOk, ◌≢◌, slice_set}
 use Rattle.std.specs.Option.{is_some, option_copied}
 use mathlib.Core.Bool.{true≢false}
 use Rattle.re_compact.specs.declared.fault.OpenFault.{OpenFault}
 use Rattle.re_compact.specs.declared.fault.OpenFault.TheVariants as unopened
 use Rattle.re_device.specs.Device.{DeviceState}
-use Rattle.re_outside.specs.Outside.{Seen}
+use Rattle.re_outside.specs.Outside.{Seen, content_in}
+use Rattle.re_record.specs.Stores as stores
+use Rattle.re_record.specs.Stores.{HasStore}
+use Rattle.re_terms.specs.Worlds.{BadFile, PlainAnswer, Refused}
 use Rattle.re_record.specs.Restoring.{Opened}
 use Rattle.re_terms.specs.Admission.{device_count}
 use Rattle.re_terms.specs.declared.command.Answer.TheVariants as answer
@@ -15,7 +18,7 @@ use Rattle.re_terms.specs.declared.program.Program.{Program}
 use Rattle.re_world.proofs.Lent.{place_elsewhere, place_here, placed_in}
 use Rattle.re_world.proofs.Restarting.{OpeningFacts, opened_does, unopened_does, up_does}
 use Rattle.re_world.specs.State.{WorldState, device_in, seen_of}
-use Rattle.re_world.specs.Stepping.{DoesCommand}
+use Rattle.re_world.specs.Stepping.{DoesCommand, unopened_as}
 use Rattle.re_world.proofs.world.World.restart.Goals as goal
 
 -- a device that is there
@@ -28,13 +31,42 @@ none_there : {T : Type 0} (o : Option T) → false ≡ is_some o → o ≡ None
 none_there None is = refl
 none_there (Some x) is = absurd (true≢false (sym is))
 
-pub returns-then-is_some : goal.returns-then-is_some
-returns-then-is_some g c =
+-- the refusal behind an answer
+bad_is : (f : OpenFault) (file at : ℕ) → unopened_as f ≡ BadFile file at → f ≡ unopened.BadStore file at
+bad_is unopened.Memory file at e = absurd (cc)
+bad_is unopened.Disk file at e = absurd (cc)
+bad_is (unopened.BadStore file' at') file at e = (λ i. unopened.BadStore (file_of (e i)) (place_of (e i)))
+  where
+    file_of : PlainAnswer → ℕ
+    file_of (BadFile x y) = x
+    file_of a = 0
+
+    place_of : PlainAnswer → ℕ
+    place_of (BadFile x y) = y
+    place_of a = 0
+bad_is unopened.OtherProgram file at e = absurd (cc)
+
+abbrev code_of : PlainAnswer → ℕ
+code_of (Refused code) = code
+code_of a = 39
+
+-- two codes are one only where they are
+not_other : (code : ℕ) → code < 39 → Refused code ≡ Refused 39 → ⊥
+not_other code less e = let same : code ≡ 39 = ap code_of e in omega (arith, less, same)
+
+other_is : (f : OpenFault) → unopened_as f ≡ Refused 39 → f ≡ unopened.OtherProgram
+other_is unopened.Memory e = absurd (not_other 36 (omega arith) e)
+other_is unopened.Disk e = absurd (not_other 33 (omega arith) e)
+other_is (unopened.BadStore file at) e = absurd (cc)
+other_is unopened.OtherProgram e = refl
+
+pub returns-then-is_some-clause-does : goal.returns-then-is_some-clause-does
+returns-then-is_some-clause-does g c =
     let found = some_there c.device.result (sym c.if-is_some.true ∙ c.is_some.ensures) in
     up_does c.args.self.now c.args.number found.0.now c.requires (sym c.device.ensures ∙ ap option_copied found.1) g.O.Outside.tells (g.O.Outside.seen c.args.out.now)
 
-pub returns-in-Ok : goal.returns-in-Ok
-returns-in-Ok g c =
+pub returns-in-Ok-clause-does : goal.returns-in-Ok-clause-does
+returns-in-Ok-clause-does g c =
     let w = c.self.inside in
     let v = seen_of w in
     let n = c.args.number in
@@ -60,8 +92,8 @@ returns-in-Ok g c =
     (ap (λ (u : WorldState). u.program) back) (ap (λ (u : WorldState). u.packets) back) (ap (λ (u : WorldState). device_in u n) back ∙ place_here v.devices n (Some x) there) (λ e other. ap (λ (u : WorldState). device_in u e) back ∙ place_elsewhere v.devices n e (Some x) other)
     c.in-Ok.ensures.settled c.in-Ok.ensures.stands (λ told f. g.met.O.Outside.reads_left c.open_outside.new.out n f (g.met.O.Outside.tells_always c.open_outside.new.out ∙ told)))
 
-pub returns-in-Err : goal.returns-in-Err
-returns-in-Err g c =
+pub returns-in-Err-clause-does : goal.returns-in-Err-clause-does
+returns-in-Err-clause-does g c =
     let w = c.self.inside in
     let v = seen_of w in
     let n = c.args.number in
@@ -79,3 +111,13 @@ returns-in-Err g c =
     subst (λ u. DoesCommand g.O.Outside.tells u u (command.Restart n) c.unopened.result before now) c.self.view_is
     (unopened_does g.O.Outside.tells v n before now facts c.in-Err.fault c.unopened.result c.unopened.ensures.answer c.unopened.ensures.ascends c.in-Err.ensures.cause
     (λ told file at same. c.in-Err.ensures.bad file at told (ap Err same)) (λ told same. c.in-Err.ensures.other told (ap Err same)))
+
+pub returns-in-Err-clause-bad : goal.returns-in-Err-clause-bad
+returns-in-Err-clause-bad g c = λ file at told e.
+    subst (λ (u : WorldState). HasStore u.program c.args.number (content_in (g.O.Outside.seen c.args.out.now) c.args.number 0) (content_in (g.O.Outside.seen c.args.out.now) c.args.number 1) (stores.Bad file at)) c.self.view_is
+    (c.in-Err.ensures.bad file at told (ap Err (bad_is c.in-Err.fault file at (sym c.unopened.ensures.answer ∙ e))))
+
+pub returns-in-Err-clause-other : goal.returns-in-Err-clause-other
+returns-in-Err-clause-other g c = λ told e.
+    subst (λ (u : WorldState). HasStore u.program c.args.number (content_in (g.O.Outside.seen c.args.out.now) c.args.number 0) (content_in (g.O.Outside.seen c.args.out.now) c.args.number 1) stores.OtherProgram) c.self.view_is
+    (c.in-Err.ensures.other told (ap Err (other_is c.in-Err.fault (sym c.unopened.ensures.answer ∙ e))))
