@@ -9,6 +9,8 @@ pub mod laws;
 mod lending;
 mod opening;
 mod restart;
+#[cfg(test)]
+mod tests;
 mod world;
 
 pub use world::World;

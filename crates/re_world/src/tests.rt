@@ -2,7 +2,7 @@
 ghost use Rattle.std.specs.Prelude.{◌<◌, ◌^◌, length, IfOk};
 ghost use Rattle.re_terms.specs.Programs.{IsProgram};
 
-use re_world::World;
+use crate::World;
 use re_commands::command;
 use re_fakes::{Fail as Failing, Files, MemoryWorld};
 use re_outside::Call;
