@@ -2,6 +2,7 @@
 use Rattle.std.proofs.Common.{arith, ◌≡◌, ◌⊎◌, inl, inr, ◌<◌, ◌+◌, ◌++◌, [], ℕ, List, Option, Some, None, Result, Ok, Err, length, refl, sym, ap, subst, ◌∙◌}
 use Rattle.std.specs.Prelude.{Bool, false, true, ◌==◌, ◌≢◌, if◌then◌else◌, map, unwrap_or}
 use Rattle.std.specs.List.{All}
+use Rattle.std.specs.Option.{option_map_or}
 use Rattle.std.proofs.lemmas.List.{append-nil, length-append}
 use Rattle.re_device.specs.Committing.{record_reads_open}
 use Rattle.re_device.specs.Device.{DeviceState}
@@ -18,18 +19,19 @@ use Rattle.re_outside.specs.Trace.{IsCrashImageOf, Past, as_device, content_of}
 use Rattle.re_record.specs.Restoring.{Opened}
 use Rattle.re_record.specs.Stores.{OpensTo}
 use Rattle.re_terms.proofs.CausalSteps.{stepped}
-use Rattle.re_terms.proofs.WorldSteps.{with_at-same}
+use Rattle.re_terms.proofs.WorldSteps.{others_kept, with_at-same}
 use Rattle.re_terms.specs.Admission.{IsCommandOf, device_count}
 use Rattle.re_terms.specs.CausalWorlds.{IsCausalWorld}
 use Rattle.re_terms.specs.DeviceWorlds.{Failed, Fine, Memory, Outcome, World, device_of, doubt, is_refusal, record_of, recovered, reply, settled_number, spelled, world_after}
 use Rattle.re_terms.specs.Entries.{PlainEntry, run_entries}
 use Rattle.re_terms.specs.Lines.{Done, first_filled, further, may_have_entered, own_entry}
 use Rattle.re_terms.specs.Shapes.{FitsShape, shape_of}
+use Rattle.re_terms.specs.Untouched.{IsUntouched}
 use Rattle.re_terms.specs.UpdateStates.{state_of_updates}
 use Rattle.re_terms.specs.Worlds.{PlainAnswer, Refused}
 use Rattle.re_terms.specs.declared.command.Command.{Command}
 use Rattle.re_terms.specs.declared.program.Program.{Program}
-use Rattle.re_world.proofs.Agreeing.{Agrees, IsElsewhere, after_agrees, opens_in}
+use Rattle.re_world.proofs.Agreeing.{opens_in}
 use Rattle.re_world.proofs.Committed.{IsCommit, failed_is, memory_same, none_in_doubt, opens_after, packets_same, refused_fine, standing_rests}
 use Rattle.re_world.proofs.Stepped.{world_behind}
 use Rattle.re_world.proofs.Within.{rests_line, within_moves, within_still}
@@ -58,14 +60,8 @@ module _ (p : Program) (w : World) (v : WorldState) (c : Command) (x : DeviceSta
     after_causal : IsCausalWorld (device_count p.decls.items) (world_after p w c o)
     after_causal = stepped p w c o of is.causal
 
-    elsewhere_is : (e : ℕ) → (e == d) ≡ false → Agrees e w (world_after p w c o)
-    elsewhere_is e other = after_agrees p w c o e (λ n for_n. subst (λ m. (e == m) ≡ false) (own n for_n) other)
-      where
-        own : (n : ℕ) → device_of c ≡ Some n → d ≡ n
-        own n for_n = some_same (sym commit.device_is ∙ for_n)
-          where
-            some_same : Some d ≡ Some n → d ≡ n
-            some_same e = cc
+    elsewhere_is : (e : ℕ) → (e == d) ≡ false → IsUntouched e w (world_after p w c o)
+    elsewhere_is e other = others_kept p w c o e (ap (λ q. option_map_or (λ n. e == n) q false) commit.device_is ∙ other)
 
   -- ---- the device ran, and its files stand
 

@@ -20,10 +20,10 @@ use Rattle.re_outside.specs.Outside.{Seen}
 use Rattle.re_outside.specs.Port.{past_in}
 use Rattle.re_outside.specs.Trace.{Past}
 use Rattle.re_terms.proofs.CausalSteps.{stepped}
-use Rattle.re_terms.proofs.WorldSteps.{with_at-same}
+use Rattle.re_terms.proofs.WorldSteps.{done_after, others_kept, with_at-same}
 use Rattle.re_terms.specs.Admission.{IsCommandOf, device_count}
 use Rattle.re_terms.specs.CausalWorlds.{IsCausalWorld}
-use Rattle.re_terms.specs.DeviceWorlds.{BadStore, Failed, Fine, Memory, OtherProgram, Outcome, World, apply, device_of, done_answer, done_world, fared_answer, fared_world, outcome_of, put_down, recovered, refusal, reply, settled_taken, spelled, world_after}
+use Rattle.re_terms.specs.DeviceWorlds.{Fine, Outcome, World, apply, device_of, done_answer, done_world, fared_answer, fared_world, outcome_of, put_down, recovered, refusal, reply, settled_taken, spelled, world_after}
 use Rattle.re_terms.specs.Entries.{PlainEntry, run_entries}
 use Rattle.re_terms.specs.Runs.{PlainState, StandsForPlain}
 use Rattle.re_terms.specs.Shapes.{FitsShape, shape_of}
@@ -36,7 +36,7 @@ use Rattle.re_terms.specs.declared.command.Command.{Command}
 use Rattle.re_terms.specs.declared.command.Command.TheVariants as command
 use Rattle.re_terms.specs.declared.entry.Admitted.{Admitted}
 use Rattle.re_terms.specs.declared.program.Program.{Program}
-use Rattle.re_world.proofs.Agreeing.{Agrees, IsElsewhere, after_agrees, opens_in}
+use Rattle.re_world.proofs.Agreeing.{opens_in}
 use Rattle.re_world.proofs.Inside.{device_has, stop_first}
 use Rattle.re_world.proofs.Lent.{none_taken, place_below, place_elsewhere, place_here}
 use Rattle.re_world.proofs.Stepped.{world_behind}
@@ -68,17 +68,7 @@ module _ (p : Program) (w : World) (c : Command) (unrefused : refusal p w c ≡ 
   pub replied : reply p w c Fine ≡ done_answer p w c
   replied = ap (λ r. unwrap_or r (fared_answer p w c (outcome_of w c Fine))) unrefused
 
-  pub done_after : world_after p w c Fine ≡ done_world w c
-  done_after = ap (λ r. option_map_or (λ refused. w) r (fared_world w c (outcome_of w c Fine))) unrefused
-
 -- ---- the world behind a command that is done
-
--- a command for one device is for no other
-for_no_other : (c : Command) (n : ℕ) → device_of c ≡ Some n → (e : ℕ) → (e == n) ≡ false → IsElsewhere e c
-for_no_other c n own e apart d is = subst (λ k. (e == k) ≡ false) (same n d (sym own ∙ is)) apart
-  where
-    same : (k m : ℕ) → Some k ≡ Some m → k ≡ m
-    same k m h = cc
 
 module _ (p : Program) (w : World) (old new : WorldState) (s : Seen) (c : Command) (n : ℕ) (is : IsWorldOf p w old s) (of : IsCommandOf p c) (below : n < device_count p.decls.items) (own : device_of c ≡ Some n) where
   -- the command for device n, where nothing outside was called: the world behind it by the device alone
@@ -86,7 +76,7 @@ module _ (p : Program) (w : World) (old new : WorldState) (s : Seen) (c : Comman
       → ((e : ℕ) → e ≢ n → device_in new e ≡ device_in old e) → new.program ≡ old.program → new.packets ≡ map (spelled p) (world_after p w c o).packets → All (λ us. FitsShape (shape_of p) (state_of_updates (shape_of p) us)) (world_after p w c o).packets
       → HasDevice p (world_after p w c o) n (device_in new n) (past_in n s) → IsWorldOf p (world_after p w c o) new s
   inside_behind o alike others program packets fit has =
-      world_behind p w (world_after p w c o) old new s s n is (stepped p w c o of is.causal) (λ e apart. after_agrees p w c o e (for_no_other c n own e apart)) others (λ e f other. record { content = refl; images = λ file image. image }) program packets fit has
+      world_behind p w (world_after p w c o) old new s s n is (stepped p w c o of is.causal) (λ e apart. others_kept p w c o e (ap (λ q. option_map_or (λ m. e == m) q false) own ∙ apart)) others (λ e f other. record { content = refl; images = λ file image. image }) program packets fit has
       (rests_alike p w (world_after p w c o) n (past_in n s) alike (is.files n below))
 
   -- the same, where it isn't refused, by the world that it is done in

@@ -21,7 +21,7 @@ use Rattle.re_record.specs.Restoring.{Opened, unopened}
 use Rattle.re_record.specs.Stores.{Blank, OpensTo}
 use Rattle.re_restore.specs.Opening.{AreBlank, StillOpens}
 use Rattle.re_terms.proofs.CausalSteps.{stepped}
-use Rattle.re_terms.proofs.WorldSteps.{with_at-same}
+use Rattle.re_terms.proofs.WorldSteps.{others_kept, with_at-same}
 use Rattle.re_terms.specs.Admission.{IsCommandOf, device_count}
 use Rattle.re_terms.specs.CausalWorlds.{IsCausalWorld}
 use Rattle.re_terms.specs.DeviceWorlds.{BadStore, Failed, Fine, Memory, OtherProgram, Outcome, World, last_number, put_up, recovered, settled_number, settled_state, spelled, world_after}
@@ -30,10 +30,11 @@ use Rattle.re_terms.specs.Lines.{Done, entry_under_way, first_filled, further}
 use Rattle.re_terms.specs.Programs.{IsProgram}
 use Rattle.re_terms.specs.Runs.{StandsForPlain}
 use Rattle.re_terms.specs.Shapes.{FitsShape, shape_of}
+use Rattle.re_terms.specs.Untouched.{IsUntouched}
 use Rattle.re_terms.specs.UpdateStates.{state_of_updates}
 use Rattle.re_terms.specs.declared.command.Command.TheVariants as command
 use Rattle.re_terms.specs.declared.program.Program.{Program}
-use Rattle.re_world.proofs.Agreeing.{Agrees, after_agrees, agrees_same}
+use Rattle.re_world.proofs.Agreeing.{untouched_same}
 use Rattle.re_world.proofs.Committed.{standing_rests}
 use Rattle.re_world.proofs.Stepped.{world_behind}
 use Rattle.re_world.proofs.Within.{rests_line, within_moves}
@@ -101,17 +102,14 @@ module _ (p : Program) (w : World) (v : WorldState) (n : ℕ) (before now : Seen
       by_doubt [] (inr held) = inl (subst (OpensAfter p w n _ _) (append-nil (w.settled n)) held)
       by_doubt (e ∷ l) (inr held) = inr held
 
-  agrees : (o : Outcome) (e : ℕ) → (e == n) ≡ false → Agrees e w (world_after p w (command.Restart n) o)
-  agrees o e other = after_agrees p w (command.Restart n) o e (λ m for_m. subst (λ k. (e == k) ≡ false) (own m for_m) other)
-    where
-      own : (m : ℕ) → Some n ≡ Some m → n ≡ m
-      own m e = cc
+  agrees : (o : Outcome) (e : ℕ) → (e == n) ≡ false → IsUntouched e w (world_after p w (command.Restart n) o)
+  agrees o e other = others_kept p w (command.Restart n) o e other
 
   -- refused, it leaves the world as it was
   pub unopened_world : (o : Outcome) → world_after p w (command.Restart n) o ≡ w → device_in v n ≡ None → IsWorldOf p (world_after p w (command.Restart n) o) v now
   unopened_world o same place =
       subst (λ u. IsWorldOf p u v now) (sym same)
-      (world_behind p w w v v before now n is is.causal (λ e other. agrees_same e w) (λ e other. refl) kept refl is.packets is.fit (subst (λ d. HasDevice p w n d new_past) (sym place) down) still_rest)
+      (world_behind p w w v v before now n is is.causal (λ e other. untouched_same e w) (λ e other. refl) kept refl is.packets is.fit (subst (λ d. HasDevice p w n d new_past) (sym place) down) still_rest)
 
   module _ (x : DeviceState) (opened : IsOpened p n x) (settled : OpensTo p n (content_in before n 0) (content_in before n 1) x.memory.settled) (stands : StandsSettled x new_past) (o : Outcome) (up : world_after p w (command.Restart n) o ≡ put_up w n) where
     abbrev u : World
@@ -170,6 +168,6 @@ module _ (p : Program) (w : World) (v : WorldState) (n : ℕ) (before now : Seen
     pub opened_world : (v' : WorldState) → v'.program ≡ v.program → v'.packets ≡ v.packets → device_in v' n ≡ Some x → ((e : ℕ) → e ≢ n → device_in v' e ≡ device_in v e) → ((f : ℕ) → IsCrashImageOf new_past f (content_of new_past f)) → IsWorldOf p (world_after p w (command.Restart n) o) v' now
     opened_world v' program packets place others reads =
         subst (λ q. IsWorldOf p q v' now) (sym up)
-        (world_behind p w (put_up w n) v v' before now n is causal (λ e other. subst (Agrees e w) up (agrees o e other)) others kept program (packets ∙ is.packets) is.fit
+        (world_behind p w (put_up w n) v v' before now n is causal (λ e other. subst (IsUntouched e w) up (agrees o e other)) others kept program (packets ∙ is.packets) is.fit
         (subst (λ d. HasDevice p (put_up w n) n d new_past) (sym place) (is_device, number, λ _. stands))
         (standing_rests p (put_up w n) x n new_past number refl causal is_device opened.running stands reads))

@@ -15,6 +15,7 @@ use Rattle.re_record.specs.Restoring.{Opened}
 use Rattle.re_record.specs.Stores as stores
 use Rattle.re_record.specs.Stores.{HasStore, OpensTo}
 use Rattle.re_restore.specs.Opening.{HasRestoreCause, StillOpens}
+use Rattle.re_terms.proofs.WorldSteps.{done_after}
 use Rattle.re_terms.specs.Admission.{device_count}
 use Rattle.re_terms.specs.DeviceWorlds.{BadStore, Failed, Fine, Memory, OtherProgram, Outcome, World, fared_answer, fared_world, outcome_of, put_up, recovered, refusal, reply, settled_number, world_after}
 use Rattle.re_terms.specs.Programs.{IsProgram}
@@ -25,7 +26,7 @@ use Rattle.re_terms.specs.declared.command.Command.TheVariants as command
 use Rattle.re_terms.specs.declared.program.Program.{Program}
 use Rattle.re_world.proofs.Doing.{none_rose}
 use Rattle.re_world.proofs.Inside.{device_has, refused_does, stop_first, up_first}
-use Rattle.re_world.proofs.InsideDone.{done_after, replied}
+use Rattle.re_world.proofs.InsideDone.{replied}
 use Rattle.re_world.proofs.Restarted.{entry_is, opened_world, restart_restores, unopened_world}
 use Rattle.re_world.specs.Opening.{IsOpened}
 use Rattle.re_world.specs.Standing.{IsWorldOf}

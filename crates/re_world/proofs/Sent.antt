@@ -13,6 +13,7 @@ use Rattle.re_outside.specs.Listed.{Listed as Bytes}
 use Rattle.re_outside.specs.Outside.{Seen}
 use Rattle.re_outside.specs.Port.{past_in}
 use Rattle.re_terms.proofs.WorldEffects.{settled-taken}
+use Rattle.re_terms.proofs.WorldSteps.{done_after}
 use Rattle.re_terms.specs.Admission.{IsCommandOf, device_count}
 use Rattle.re_terms.specs.DeviceWorlds.{Fine, World, refusal, refused_where, settled_taken, spelled, world_after}
 use Rattle.re_terms.specs.Listed.{Listed}
@@ -26,7 +27,7 @@ use Rattle.re_terms.specs.declared.command.Command.TheVariants as command
 use Rattle.re_terms.specs.declared.program.Program.{Program}
 use Rattle.re_terms.specs.declared.replicated.RState.{RState}
 use Rattle.re_world.proofs.Inside.{device_has, refused_does, unrefused}
-use Rattle.re_world.proofs.InsideDone.{done_after, done_behind, done_does, replied}
+use Rattle.re_world.proofs.InsideDone.{done_behind, done_does, replied}
 use Rattle.re_world.proofs.Told.{packet_count}
 use Rattle.re_world.specs.Standing.{HasDevice, IsWorldOf}
 use Rattle.re_world.specs.State.{AllPlaced, IsKept, IsPacket, IsPlaced, WorldState, device_in, seen_of}

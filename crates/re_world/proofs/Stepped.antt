@@ -11,9 +11,10 @@ use Rattle.re_terms.specs.Admission.{device_count}
 use Rattle.re_terms.specs.CausalWorlds.{IsCausalWorld}
 use Rattle.re_terms.specs.DeviceWorlds.{World, spelled}
 use Rattle.re_terms.specs.Shapes.{FitsShape, shape_of}
+use Rattle.re_terms.specs.Untouched.{IsUntouched}
 use Rattle.re_terms.specs.UpdateStates.{state_of_updates}
 use Rattle.re_terms.specs.declared.program.Program.{Program}
-use Rattle.re_world.proofs.Agreeing.{Agrees, device_agrees, rests_agree}
+use Rattle.re_world.proofs.Agreeing.{device_agrees, rests_agree}
 use Rattle.re_world.proofs.Kept.{stands_kept}
 use Rattle.re_world.specs.Standing.{HasDevice, IsWorldOf, RestsAs}
 use Rattle.re_world.specs.State.{WorldState, device_in}
@@ -26,17 +27,17 @@ apart e d = elim (eqb_tells e d) [
 ]
 
 -- a device that hasn't changed, over files that haven't moved
-other_stands : (p : Program) (w v : World) (e : ℕ) (o : Option DeviceState) (before now : Seen) → e < device_count p.decls.items → IsCausalWorld (device_count p.decls.items) v → Agrees e w v → ((f : ℕ) → IsKept e f (past_in 0 before) (past_in 0 now)) → HasDevice p w e o (past_in e before) → HasDevice p v e o (past_in e now)
+other_stands : (p : Program) (w v : World) (e : ℕ) (o : Option DeviceState) (before now : Seen) → e < device_count p.decls.items → IsCausalWorld (device_count p.decls.items) v → IsUntouched e w v → ((f : ℕ) → IsKept e f (past_in 0 before) (past_in 0 now)) → HasDevice p w e o (past_in e before) → HasDevice p v e o (past_in e now)
 other_stands p w v e None before now below causal agrees kept has = agrees.up ∙ has
 other_stands p w v e (Some d) before now below causal agrees kept has = (
-  device_agrees p w v d (subst (λ n. Agrees n w v) (sym has.1) agrees) (subst (λ n. n < device_count p.decls.items) (sym has.1) below) causal has.0,
+  device_agrees p w v d (subst (λ n. IsUntouched n w v) (sym has.1) agrees) (subst (λ n. n < device_count p.decls.items) (sym has.1) below) causal has.0,
   has.1,
   λ runs. stands_kept e (past_in 0 before) (past_in 0 now) kept d.memory d.memory.settled d.generation d.journal (has.2 (sym agrees.stop ∙ runs)),
 )
 
 -- The world behind it: its device and that device's files are as it has them, and the others are as they were.
 pub world_behind : (p : Program) (w v : World) (old new : WorldState) (before now : Seen) (d : ℕ) → IsWorldOf p w old before → IsCausalWorld (device_count p.decls.items) v
-    → ((e : ℕ) → (e == d) ≡ false → Agrees e w v) → ((e : ℕ) → e ≢ d → device_in new e ≡ device_in old e) → ((e f : ℕ) → e ≢ d → IsKept e f (past_in 0 before) (past_in 0 now))
+    → ((e : ℕ) → (e == d) ≡ false → IsUntouched e w v) → ((e : ℕ) → e ≢ d → device_in new e ≡ device_in old e) → ((e f : ℕ) → e ≢ d → IsKept e f (past_in 0 before) (past_in 0 now))
     → new.program ≡ old.program → new.packets ≡ map (spelled p) v.packets → All (λ us. FitsShape (shape_of p) (state_of_updates (shape_of p) us)) v.packets
     → HasDevice p v d (device_in new d) (past_in d now) → RestsAs p v d (past_in d now)
     → IsWorldOf p v new now

@@ -5,7 +5,7 @@ ghost use Rattle.re_outside.specs.Outside.{Seen, content_in};
 ghost use Rattle.re_outside.specs.Trace.{content_of};
 ghost use Rattle.re_print.specs.Canonical.{program_text};
 ghost use Rattle.re_record.specs.Stores as stores;
-ghost use Rattle.re_record.specs.Stores.{HasStore, OpensTo};
+ghost use Rattle.re_record.specs.Stores.{HasStore, OpensTo, Stored};
 ghost use Rattle.re_terms.specs.Admission.{device_count};
 ghost use Rattle.re_terms.specs.Programs.{IsProgram};
 ghost use Rattle.re_compact.specs.declared.fault.OpenFault.{OpenFault as TheFault};
@@ -14,7 +14,7 @@ ghost use Rattle.re_device.specs.Standing.{StandsSettled};
 ghost use Rattle.re_restore.specs.Opening.{HasRestoreCause, StillOpens};
 ghost use Rattle.re_outside.specs.Port.{disk_faults, other_faults, past_in};
 ghost use Rattle.re_record.specs.Restoring.{Opened};
-ghost use Rattle.re_world.specs.Opening.{AreOpened, HasOpeningCause, IsOpened, KeepsOpening, OpenBefore};
+ghost use Rattle.re_world.specs.Opening.{AreOpened, HasAllOpeningSteps, HasNextSteps, HasOpeningCause, HasOpeningSteps, IsOpened, IsOpeningAnswer, KeepsOpening, OpenBefore};
 ghost use Rattle.re_world.specs.State.{AllPlaced};
 
 use re_compact::OpenFault;
@@ -46,6 +46,10 @@ pub fn open_device<D: Disk>(
     ensures reads { (o : Opened) → D.tells → OpensTo p.now number (content_of (D.past disk.old) 0) (content_of (D.past disk.old) 1) o → OpensTo p.now number (content_of (D.past disk.new) 0) (content_of (D.past disk.new) 1) o }
     ensures bad { (file at : ℕ) → D.tells → result ≡ Err (BadStore file at) → HasStore p.now number (content_of (D.past disk.old) 0) (content_of (D.past disk.old) 1) (stores.Bad file at) }
     ensures other { D.tells → result ≡ Err OtherProgram → HasStore p.now number (content_of (D.past disk.old) 0) (content_of (D.past disk.old) 1) stores.OtherProgram }
+    // What the files hold decides the answer, unless the disk fails or memory runs out.
+    ensures decided { (stored : Stored) → D.tells → HasStore p.now number (content_of (D.past disk.old) 0) (content_of (D.past disk.old) 1) stored → IsOpeningAnswer p.now number stored result }
+    // The calls of the disk, in order, up to the first that failed.
+    ensures steps { D.tells → HasOpeningSteps p.now number (D.past disk.old) (D.past disk.new) result }
     ensures cause { HasRestoreCause (D.faults disk.old) (D.faults disk.new) result }
     ensures device { (D.past disk.new).device ≡ (D.past disk.old).device }
     ensures rest { D.rest disk.new ≡ D.rest disk.old }
@@ -91,6 +95,8 @@ pub(crate) fn open_outside<O: Outside>(
     ensures reads { (o : Opened) → O.tells ≡ true → OpensTo p.now number (content_in (O.seen out.old) number 0) (content_in (O.seen out.old) number 1) o → OpensTo p.now number (content_in (O.seen out.new) number 0) (content_in (O.seen out.new) number 1) o }
     ensures bad { (file at : ℕ) → O.tells ≡ true → result ≡ Err (BadStore file at) → HasStore p.now number (content_in (O.seen out.old) number 0) (content_in (O.seen out.old) number 1) (stores.Bad file at) }
     ensures other { O.tells ≡ true → result ≡ Err OtherProgram → HasStore p.now number (content_in (O.seen out.old) number 0) (content_in (O.seen out.old) number 1) stores.OtherProgram }
+    ensures decided { (stored : Stored) → O.tells ≡ true → HasStore p.now number (content_in (O.seen out.old) number 0) (content_in (O.seen out.old) number 1) stored → IsOpeningAnswer p.now number stored result }
+    ensures steps { O.tells ≡ true → HasOpeningSteps p.now number (past_in number (O.seen out.old)) (past_in number (O.seen out.new)) result }
     ensures cause { HasRestoreCause (disk_faults number (O.seen out.old)) (disk_faults number (O.seen out.new)) result }
     ensures others { other_faults number (O.seen out.new) ≡ other_faults number (O.seen out.old) }
     ensures left { O.tells ≡ true → (O.seen out.new).left ≡ (O.seen out.old).left }
@@ -115,6 +121,7 @@ fn open_next<O: Outside>(
     ensures moments { (start : Seen) → O.tells ≡ true → AreOpened p.now devices.old.items start (O.seen out.old) → Throughout (past_in 0 start) (past_in 0 (O.seen out.new)) (KeepsOpening p.now (past_in 0 start)) }
     ensures bad { (file at : ℕ) → O.tells ≡ true → result ≡ Err (BadStore file at) → HasStore p.now (length devices.old.items) (content_in (O.seen out.old) (length devices.old.items) 0) (content_in (O.seen out.old) (length devices.old.items) 1) (stores.Bad file at) }
     ensures other { O.tells ≡ true → result ≡ Err OtherProgram → HasStore p.now (length devices.old.items) (content_in (O.seen out.old) (length devices.old.items) 0) (content_in (O.seen out.old) (length devices.old.items) 1) stores.OtherProgram }
+    ensures steps { O.tells ≡ true → HasNextSteps p.now (length devices.old.items) (past_in (length devices.old.items) (O.seen out.old)) (past_in (length devices.old.items) (O.seen out.new)) result }
     ensures cause { HasRestoreCause (disk_faults (length devices.old.items) (O.seen out.old)) (disk_faults (length devices.old.items) (O.seen out.new)) result }
     ensures others { other_faults (length devices.old.items) (O.seen out.new) ≡ other_faults (length devices.old.items) (O.seen out.old) }
     ensures left { O.tells ≡ true → (O.seen out.new).left ≡ (O.seen out.old).left }
@@ -144,6 +151,8 @@ pub fn open_all<O: Outside>(
     ensures bad { (d file at : ℕ) → O.tells ≡ true → result ≡ Err (d, BadStore file at) → HasStore p.now d (content_in (O.seen out.old) d 0) (content_in (O.seen out.old) d 1) (stores.Bad file at) }
     ensures other { (d : ℕ) → O.tells ≡ true → result ≡ Err (d, OtherProgram) → HasStore p.now d (content_in (O.seen out.old) d 0) (content_in (O.seen out.old) d 1) stores.OtherProgram }
     ensures cause { HasOpeningCause (O.seen out.old) (O.seen out.new) result }
+    // The calls on the devices' files, in order, up to the first that failed.
+    ensures steps { O.tells ≡ true → HasAllOpeningSteps p.now (past_in 0 (O.seen out.old)) (past_in 0 (O.seen out.new)) result }
     ensures first { (d : ℕ) (fault : TheFault) → O.tells ≡ true → result ≡ Err (d, fault) → OpenBefore p.now d (O.seen out.old) }
     ensures left { O.tells ≡ true → (O.seen out.new).left ≡ (O.seen out.old).left }
 {

@@ -1,12 +1,14 @@
 //! A device that is opened again.
-ghost use Rattle.std.specs.Prelude.{◌≡◌, ℕ, true};
+ghost use Rattle.std.specs.Prelude.{◌≡◌, ℕ, true, None};
 ghost use Rattle.re_outside.specs.Outside.{content_in};
 ghost use Rattle.re_print.specs.AnswerTexts.{AscendsWhereSet};
 ghost use Rattle.re_record.specs.Stores as stores;
-ghost use Rattle.re_record.specs.Stores.{HasStore};
+ghost use Rattle.re_record.specs.Stores.{HasStore, Stored};
 ghost use Rattle.re_terms.specs.Admission.{IsCommandOf};
 ghost use Rattle.re_terms.specs.Worlds.{BadFile, Refused, plain_answer};
-ghost use Rattle.re_world.specs.Stepping.{DoesCommand, unopened_as};
+ghost use Rattle.re_world.specs.FileSteps.{unopened_as};
+ghost use Rattle.re_world.specs.State.{device_in};
+ghost use Rattle.re_world.specs.Stepping.{DoesCommand, IsRestartAnswer};
 
 use crate::World;
 use crate::answers::{DISK, MEMORY, OTHER_PROGRAM, UP};
@@ -34,6 +36,7 @@ impl World {
         requires { IsCommandOf self.old.program (Command.Restart number) }
         ensures does { DoesCommand O.tells self.old self.new (Command.Restart number) result (O.seen out.old) (O.seen out.new) }
         ensures bad { (file at : ℕ) → O.tells ≡ true → plain_answer result ≡ BadFile file at → HasStore self.old.program number (content_in (O.seen out.old) number 0) (content_in (O.seen out.old) number 1) (stores.Bad file at) }
+        ensures decided { (stored : Stored) → O.tells ≡ true → device_in self.old number ≡ None → HasStore self.old.program number (content_in (O.seen out.old) number 0) (content_in (O.seen out.old) number 1) stored → IsRestartAnswer self.old.program number stored (plain_answer result) }
         ensures other { O.tells ≡ true → plain_answer result ≡ Refused 39 → HasStore self.old.program number (content_in (O.seen out.old) number 0) (content_in (O.seen out.old) number 1) stores.OtherProgram }
     {
         if self.device(number).is_some() {

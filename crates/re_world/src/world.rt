@@ -1,5 +1,5 @@
 //! The world of a session: devices and packets.
-ghost use Rattle.std.specs.Prelude.{◌≡◌, ◌≢◌, ◌<◌, ◌≤◌, ◌+◌, ℕ, List, length, true, false, Some, None, Err, IfOk, OnOk};
+ghost use Rattle.std.specs.Prelude.{◌≡◌, ◌≢◌, ◌<◌, ◌≤◌, ◌+◌, ℕ, List, [], length, true, false, Some, None, Err, IfOk, OnOk};
 ghost use Rattle.std.specs.Option.{option_copied};
 ghost use Rattle.re_outside.specs.Moment.{Throughout};
 ghost use Rattle.re_outside.specs.Outside.{Rose, content_in};
@@ -10,7 +10,7 @@ ghost use Rattle.re_compact.specs.declared.fault.OpenFault.TheVariants.{BadStore
 ghost use Rattle.re_print.specs.Canonical.{program_text};
 ghost use Rattle.re_print.specs.AnswerTexts.{AscendsWhereSet};
 ghost use Rattle.re_record.specs.Stores as stores;
-ghost use Rattle.re_record.specs.Stores.{HasStore};
+ghost use Rattle.re_record.specs.Stores.{HasStore, Stored};
 ghost use Rattle.re_terms.specs.Admission.{IsCommandOf, device_count};
 ghost use Rattle.re_terms.specs.DeviceWorlds.{start_world};
 ghost use Rattle.re_terms.specs.Programs.{IsProgram};
@@ -19,11 +19,13 @@ ghost use Rattle.re_terms.specs.Updates.{Update};
 ghost use Rattle.re_terms.specs.Worlds.{BadFile, Refused, plain_answer};
 ghost use Rattle.re_terms.specs.declared.command.Command.TheVariants as command;
 ghost use Rattle.re_world.specs.Images.{Restores};
-ghost use Rattle.re_world.specs.Opening.{OpenBefore};
+ghost use Rattle.re_device.specs.Device.{DeviceState};
+ghost use Rattle.re_world.specs.FileSteps.{HasFileSteps};
+ghost use Rattle.re_world.specs.Opening.{HasAllOpeningSteps, IsOpened, OpenBefore};
 ghost use Rattle.re_world.specs.Standing.{IsWorldOf};
 ghost use Rattle.re_world.specs.Starting.{StartsAt};
 ghost use Rattle.re_world.specs.State.{device_in};
-ghost use Rattle.re_world.specs.Stepping.{CountsBy, DoesCommand, HasStepped};
+ghost use Rattle.re_world.specs.Stepping.{CountsBy, DoesCommand, HasStepped, IsRestartAnswer, Keeps};
 
 use crate::opening::open_all;
 use re_compact::OpenFault;
@@ -65,11 +67,14 @@ impl Model for World {
 }
 
 impl World {
-    /// Opens the devices of a program over their files, in order. The refusal is that of the first device that can't be opened, with its number.
+    /// Opens the devices of a program over their files, in order. The refusal is that of the first device that can't be opened, with its number;
+    /// want of memory may come with the number 0 before any is opened.
     pub fn new<O: Outside>(alloc: Global, out: &mut O, p: Program) -> Result<World, (u8, OpenFault)>
         requires program { IsProgram p }
         requires text { length (program_text p) ≤ 65536 }
         ensures program { IfOk result (λ v. v.program ≡ p) }
+        ensures opened { IfOk result (λ v. (d : ℕ) → d < device_count p.decls.items → (x : DeviceState) × (device_in v d ≡ Some x) × IsOpened p d x) }
+        ensures packets { IfOk result (λ v. v.packets ≡ []) }
         // Where the files at the call are synced and one log stands behind them, what is opened is the world that they stand for, and a stop
         // at any moment leaves files that stand for it.
         ensures world { (base : ℕ → PlainState) (base_number : ℕ → ℕ) (log : List Update) → O.tells ≡ true → StartsAt p base base_number log (past_in 0 (O.seen out.old)) → IfOk result (λ v. IsWorldOf p (start_world p base base_number log) v (O.seen out.new)) }
@@ -82,17 +87,21 @@ impl World {
         ensures disk { (d : ℕ) → result ≡ Err (d, DiskRefusal) → Rose (disk_faults d (O.seen out.old)) (disk_faults d (O.seen out.new)) }
         ensures others { (d : ℕ) → result ≡ Err (d, DiskRefusal) → other_faults d (O.seen out.new) ≡ other_faults d (O.seen out.old) }
         ensures calm { ((d : ℕ) → result ≢ Err (d, DiskRefusal)) → (O.seen out.new).faults ≡ (O.seen out.old).faults }
-        // Each device before the one that is refused opens.
+        // All devices open, or each before the one that is refused.
+        ensures all { O.tells ≡ true → OnOk result (OpenBefore p (device_count p.decls.items) (O.seen out.old)) }
         ensures first { (d : ℕ) (fault : TheFault) → O.tells ≡ true → result ≡ Err (d, fault) → OpenBefore p d (O.seen out.old) }
+
+        // The calls on the devices' files, in order, up to the first that failed.
+        ensures steps { O.tells ≡ true → HasAllOpeningSteps p (past_in 0 (O.seen out.old)) (past_in 0 (O.seen out.new)) result }
 
         // No input is taken, and what was done before the call stands.
         ensures left { O.tells ≡ true → (O.seen out.new).left ≡ (O.seen out.old).left }
         ensures goes_on { O.tells ≡ true → IsBefore (past_in 0 (O.seen out.old)) (past_in 0 (O.seen out.new)) }
     {
-        let devices = open_all(alloc, out, &p)?;
         let Ok(shape) = Shape::of(alloc, &p) else {
             return Err((0, OpenFault::Memory));
         };
+        let devices = open_all(alloc, out, &p)?;
         Ok(World {
             alloc,
             program: p,
@@ -111,13 +120,20 @@ impl World {
     /// settled or none of them, and it is stopped until it is crashed and restarted.
     pub fn step<O: Outside>(&mut self, out: &mut O, c: Command) -> Answer
         requires { IsCommandOf self.old.program c }
-        ensures program { self.new.program ≡ self.old.program }
         // Where the outside tells what is seen, the command is one step of each world that these devices, packets and files are, and a stop at
         // any moment leaves files that restore to the world before it, with the command under way.
         ensures stepped { O.tells ≡ true → HasStepped self.old self.new c (plain_answer result) (O.seen out.old) (O.seen out.new) }
+
+        // What stays: the program, all other devices, and after a refusal all, but for the device that stops where a file call failed.
+        ensures keeps { Keeps self.old self.new c (plain_answer result) }
         // The code 33 comes exactly where the count of the device's disk rose, and no other count changes.
         ensures counts { CountsBy c (plain_answer result) (O.seen out.old) (O.seen out.new) }
-        // What a restart is refused with for its store is what the device's files are to the program, as they read at the call.
+        // The calls on the device's files, in order, up to the first that failed, and how many the device has counted.
+        ensures files { O.tells ≡ true → HasFileSteps self.old self.new c (plain_answer result) (O.seen out.old) (O.seen out.new) }
+
+        // What the device's files are to the program, as they read at the call, decides the answer to a restart of a device that is down,
+        // unless the disk fails or memory runs out; what a restart is refused with for its store is what they are.
+        ensures decided { (d : ℕ) (stored : Stored) → O.tells ≡ true → c ≡ command.Restart d → device_in self.old d ≡ None → HasStore self.old.program d (content_in (O.seen out.old) d 0) (content_in (O.seen out.old) d 1) stored → IsRestartAnswer self.old.program d stored (plain_answer result) }
         ensures bad { (d file at : ℕ) → O.tells ≡ true → c ≡ command.Restart d → plain_answer result ≡ BadFile file at → HasStore self.old.program d (content_in (O.seen out.old) d 0) (content_in (O.seen out.old) d 1) (stores.Bad file at) }
         ensures other { (d : ℕ) → O.tells ≡ true → c ≡ command.Restart d → plain_answer result ≡ Refused 39 → HasStore self.old.program d (content_in (O.seen out.old) d 0) (content_in (O.seen out.old) d 1) stores.OtherProgram }
         ensures left { O.tells ≡ true → (O.seen out.new).left ≡ (O.seen out.old).left }
@@ -133,6 +149,7 @@ impl World {
         requires parts { blank.parts ≡ L.parts }
         requires one { 0 < L.parts }
         ensures does { DoesCommand O.tells self.old self.new c result (O.seen out.old) (O.seen out.new) }
+        ensures decided { (d : ℕ) (stored : Stored) → O.tells ≡ true → c ≡ command.Restart d → device_in self.old d ≡ None → HasStore self.old.program d (content_in (O.seen out.old) d 0) (content_in (O.seen out.old) d 1) stored → IsRestartAnswer self.old.program d stored (plain_answer result) }
         ensures bad { (d file at : ℕ) → O.tells ≡ true → c ≡ command.Restart d → plain_answer result ≡ BadFile file at → HasStore self.old.program d (content_in (O.seen out.old) d 0) (content_in (O.seen out.old) d 1) (stores.Bad file at) }
         ensures other { (d : ℕ) → O.tells ≡ true → c ≡ command.Restart d → plain_answer result ≡ Refused 39 → HasStore self.old.program d (content_in (O.seen out.old) d 0) (content_in (O.seen out.old) d 1) stores.OtherProgram }
     {
