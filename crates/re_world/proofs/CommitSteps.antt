@@ -30,12 +30,14 @@ use Rattle.re_terms.specs.Untouched.{IsUntouched}
 use Rattle.re_terms.specs.UpdateStates.{state_of_updates}
 use Rattle.re_terms.specs.Worlds.{PlainAnswer, Refused}
 use Rattle.re_terms.specs.declared.command.Command.{Command}
+use Rattle.re_terms.specs.declared.entry.Logged.{Logged}
 use Rattle.re_terms.specs.declared.program.Program.{Program}
 use Rattle.re_world.proofs.Agreeing.{opens_in}
 use Rattle.re_world.proofs.Committed.{IsCommit, failed_is, memory_same, none_in_doubt, opens_after, packets_same, refused_fine, standing_rests}
 use Rattle.re_world.proofs.Stepped.{world_behind}
 use Rattle.re_world.proofs.Within.{rests_line, within_moves, within_still}
-use Rattle.re_world.specs.Calls.{Commits}
+use Rattle.re_world.proofs.Unmoved.{unmoved_settling}
+use Rattle.re_world.specs.Calls.{Commits, Leaves}
 use Rattle.re_world.specs.Images.{OpensAfter, OpensToLine}
 use Rattle.re_world.specs.Standing.{HasDevice, IsWorldOf, RestsAs}
 use Rattle.re_world.specs.State.{WorldState, device_in}
@@ -134,7 +136,7 @@ module _ (p : Program) (w : World) (v : WorldState) (c : Command) (x : DeviceSta
 
   -- ---- what the call gives
 
-  module _ {T : Type 0} (P : Program → World → Type 0) (done : T → PlainAnswer) (enters : (y : T) → may_have_entered (done y) ≡ true) (after : Opened) (v' : WorldState) (x' : DeviceState) (holds : P p w) (number : x'.memory.device ≡ d)
+  module _ {T : Type 0} (P : Program → World → Type 0) (done : T → PlainAnswer) (enters : (y : T) → may_have_entered (done y) ≡ true) (entries : List Logged) (after : Opened) (v' : WorldState) (x' : DeviceState) (holds : P p w) (number : x'.memory.device ≡ d)
       (place' : device_in v' d ≡ Some x') (others : (e : ℕ) → e ≢ d → device_in v' e ≡ device_in v e) (program : v'.program ≡ v.program) (packets : v'.packets ≡ v.packets) (reads : (f : ℕ) → IsCrashImageOf new_past f (content_of new_past f)) where
     abbrev fared : Result T DeviceFault → Outcome
     fared r = fared_as x'.journal.stopped (record_reads_open x old_past new_past) r
@@ -149,7 +151,7 @@ module _ (p : Program) (w : World) (v : WorldState) (c : Command) (x : DeviceSta
         (packets ∙ is.packets ∙ ap (map (spelled p)) (sym (packets_same p w c d commit o))) (subst (All (λ us. FitsShape (shape_of p) (state_of_updates (shape_of p) us))) (sym (packets_same p w c d commit o)) is.fit)
         (subst (λ q. HasDevice p q d (device_in v' d) new_past) same (subst (λ q. HasDevice p u d q new_past) (sym place') has')) (subst (λ q. RestsAs p q d new_past) same rests)
 
-    module _ (r : Result T DeviceFault) (commits : Commits P after c (answered_as done) x x' old_past new_past r) where
+    module _ (r : Result T DeviceFault) (commits : Commits P entries after c (answered_as done) x x' old_past new_past r) where
       -- where it isn't refused since the device is stopped, the device runs
       ran : ((at : ℕ) → r ≢ Err (fault.Stopped at)) → x.journal.stopped ≡ None
       ran never = by_stop x.journal.stopped refl
@@ -167,7 +169,7 @@ module _ (p : Program) (w : World) (v : WorldState) (c : Command) (x : DeviceSta
       leads : IsPlainly p after (run_entries p d (w.base d) (w.settled d ++ record_of w c)) (settled_number w d + length (record_of w c))
       leads = commits.leads.plainly p w has.0 holds
 
-    done_steps : (y : T) → Commits P after c (answered_as done) x x' old_past new_past (Ok y) → Steps (Ok y)
+    done_steps : (y : T) → Commits P entries after c (answered_as done) x x' old_past new_past (Ok y) → Steps (Ok y)
     done_steps y commits = (
       behind (world_after p w c Fine) Fine refl (kept runs after (leads (Ok y) commits) (commits.moments there)) (own (Ok y) commits, number, λ _. commits.stands there)
           (standing_rests p (world_after p w c Fine) x' d new_past number refl (after_causal Fine) (own (Ok y) commits) commits.runs (commits.stands there) reads),
@@ -186,10 +188,10 @@ module _ (p : Program) (w : World) (v : WorldState) (c : Command) (x : DeviceSta
     abbrev gate_open : Bool
     gate_open = record_reads_open x old_past new_past
 
-    failed_steps : Commits P after c (answered_as done) x x' old_past new_past (Err fault.Disk) → Steps (Err fault.Disk)
-    failed_steps commits = (
+    failed_steps : Commits P entries after c (answered_as done) x x' old_past new_past (Err fault.Disk) → Leaves {T} x x' (Err fault.Disk) → Steps (Err fault.Disk)
+    failed_steps commits leaves = (
       behind (doubt w d (record_of w c) at gate_open) (Failed at gate_open) (sym is_doubt) (kept runs after (leads (Err fault.Disk) commits) (commits.moments there))
-          (subst (λ u. HasDevice p u d (Some x') new_past) is_doubt (own (Err fault.Disk) commits, number, λ e. absurd (commits.stops refl (stop_is (Err fault.Disk) commits ∙ e))))
+          (subst (λ u. HasDevice p u d (Some x') new_past) is_doubt (own (Err fault.Disk) commits, number, λ e. absurd (leaves.stops refl (stop_is (Err fault.Disk) commits ∙ e))))
           (doubt_rests runs after (leads (Err fault.Disk) commits) (commits.moments there) at gate_open (commits.reads there)),
       commit_restores runs after (leads (Err fault.Disk) commits) (commits.moments there) (Failed at gate_open) (ap may_have_entered (sym (commits.steps.answers p w has.0 holds))),
     )
@@ -201,29 +203,29 @@ module _ (p : Program) (w : World) (v : WorldState) (c : Command) (x : DeviceSta
         there = stands runs after (leads (Err fault.Disk) commits)
 
         is_doubt : world_after p w c (Failed at gate_open) ≡ doubt w d (record_of w c) at gate_open
-        is_doubt = failed_is p w c d commit at gate_open (λ e. absurd (commits.stops refl (stop_is (Err fault.Disk) commits ∙ e ∙ sym has.0.stop ∙ runs)))
+        is_doubt = failed_is p w c d commit at gate_open (λ e. absurd (leaves.stops refl (stop_is (Err fault.Disk) commits ∙ e ∙ sym has.0.stop ∙ runs)))
 
     -- refused for another cause it has changed nothing
-    still_steps : (f : DeviceFault) → f ≢ fault.Disk → world_after p w c (fared (Err f)) ≡ w → Commits P after c (answered_as done) x x' old_past new_past (Err f) → Steps (Err f)
-    still_steps f other same commits = (
+    still_steps : (f : DeviceFault) → f ≢ fault.Disk → world_after p w c (fared (Err f)) ≡ w → Commits P entries after c (answered_as done) x x' old_past new_past (Err f) → Leaves {T} x x' (Err f) → Steps (Err f)
+    still_steps f other same commits leaves = (
       behind w (fared (Err f)) (sym same) (λ e g _. subst (λ q. IsKept e g (past_in 0 before) q) (sym past_same) (record { content = refl; images = λ file image. image }))
           (subst (λ q. HasDevice p w d (Some x') q) (sym unmoved.1) (subst (λ y. HasDevice p w d (Some y) old_past) (sym unmoved.0) has)) (subst (RestsAs p w d) (sym unmoved.1) (is.files d below)),
       within_still p w v c (fared (Err f)) before now is past_same,
     )
       where
         unmoved : (x' ≡ x) × (new_past ≡ old_past)
-        unmoved = commits.refused f refl other
+        unmoved = (leaves.refused f refl other, unmoved_settling {T} x entries x'.journal.stopped old_past new_past (Err f) f commits.calls.made (λ none. (commits.calls.none none).1) refl other)
 
         past_same : past_in 0 now ≡ past_in 0 before
         past_same = ap (as_device 0) unmoved.1
 
-    pub answered_steps : (r : Result T DeviceFault) → Commits P after c (answered_as done) x x' old_past new_past r → Steps r
-    answered_steps (Ok y) commits = done_steps y commits
-    answered_steps (Err fault.Disk) commits = failed_steps commits
-    answered_steps (Err fault.Memory) commits = still_steps fault.Memory (λ e. absurd (cc)) (memory_same p w c) commits
-    answered_steps (Err (fault.Stopped at)) commits = still_steps (fault.Stopped at) (λ e. absurd (cc)) (refused_fine p w c (ap is_refusal (sym (commits.steps.answers p w has.0 holds)))) commits
-    answered_steps (Err fault.Full) commits = still_steps fault.Full (λ e. absurd (cc)) (refused_fine p w c (ap is_refusal (sym (commits.steps.answers p w has.0 holds)))) commits
-    answered_steps (Err fault.LooseFull) commits = still_steps fault.LooseFull (λ e. absurd (cc)) (refused_fine p w c (ap is_refusal (sym (commits.steps.answers p w has.0 holds)))) commits
-    answered_steps (Err fault.SetFull) commits = still_steps fault.SetFull (λ e. absurd (cc)) (refused_fine p w c (ap is_refusal (sym (commits.steps.answers p w has.0 holds)))) commits
-    answered_steps (Err fault.CounterFull) commits = still_steps fault.CounterFull (λ e. absurd (cc)) (refused_fine p w c (ap is_refusal (sym (commits.steps.answers p w has.0 holds)))) commits
-    answered_steps (Err fault.DotsSpent) commits = still_steps fault.DotsSpent (λ e. absurd (cc)) (refused_fine p w c (ap is_refusal (sym (commits.steps.answers p w has.0 holds)))) commits
+    pub answered_steps : (r : Result T DeviceFault) → Commits P entries after c (answered_as done) x x' old_past new_past r → Leaves x x' r → Steps r
+    answered_steps (Ok y) commits leaves = done_steps y commits
+    answered_steps (Err fault.Disk) commits leaves = failed_steps commits leaves
+    answered_steps (Err fault.Memory) commits leaves = still_steps fault.Memory (λ e. absurd (cc)) (memory_same p w c) commits leaves
+    answered_steps (Err (fault.Stopped at)) commits leaves = still_steps (fault.Stopped at) (λ e. absurd (cc)) (refused_fine p w c (ap is_refusal (sym (commits.steps.answers p w has.0 holds)))) commits leaves
+    answered_steps (Err fault.Full) commits leaves = still_steps fault.Full (λ e. absurd (cc)) (refused_fine p w c (ap is_refusal (sym (commits.steps.answers p w has.0 holds)))) commits leaves
+    answered_steps (Err fault.LooseFull) commits leaves = still_steps fault.LooseFull (λ e. absurd (cc)) (refused_fine p w c (ap is_refusal (sym (commits.steps.answers p w has.0 holds)))) commits leaves
+    answered_steps (Err fault.SetFull) commits leaves = still_steps fault.SetFull (λ e. absurd (cc)) (refused_fine p w c (ap is_refusal (sym (commits.steps.answers p w has.0 holds)))) commits leaves
+    answered_steps (Err fault.CounterFull) commits leaves = still_steps fault.CounterFull (λ e. absurd (cc)) (refused_fine p w c (ap is_refusal (sym (commits.steps.answers p w has.0 holds)))) commits leaves
+    answered_steps (Err fault.DotsSpent) commits leaves = still_steps fault.DotsSpent (λ e. absurd (cc)) (refused_fine p w c (ap is_refusal (sym (commits.steps.answers p w has.0 holds)))) commits leaves

@@ -24,6 +24,7 @@ use Rattle.re_terms.specs.Updates.{Update}
 use Rattle.re_terms.specs.declared.program.Program.{Program}
 use Rattle.re_terms.specs.declared.replicated.RState.{RState}
 use Rattle.re_world.proofs.Within.{part_at}
+use Rattle.re_world.specs.FileSteps.{IsPacketState}
 use Rattle.re_world.specs.Standing.{IsWorldOf}
 use Rattle.re_world.specs.State.{IsPacket, WorldState}
 
@@ -57,6 +58,15 @@ packet_of p w v s x k bytes state is below at only =
       listed = found.1;
       part = part_grown w.log (run_updates d (settled_taken w d) (w.unsettled d)) us (entries_taken w.log (settled_taken w d) d (w.unsettled d) (is.causal.taken_in d below) (is.causal.unsettled d)).causal (part_at w.log w.packets k us is.causal.packets found.1);
       joins = ap (join_states (current x.memory).state.rep) (only (state_of_updates (shape_of p) us) (all_at (λ us. FitsShape (shape_of p) (state_of_updates (shape_of p) us)) w.packets k us is.fit found.1) found.2);
+    }
+
+-- a state that is all that has a packet's bytes is the packet's
+pub packet_state : (v : WorldState) (k : ℕ) (bytes : List ℕ) (state : RState) → slice_get v.packets k ≡ Some bytes → IsPacket v.program bytes → ((r : RState) → FitsShape (shape_of v.program) r → bytes ≡ packet_bytes (shape_of v.program).devices r → state ≡ r) → IsPacketState v k state
+packet_state v k bytes state at packet only =
+    let same = only packet.0 packet.1 packet.2 in
+    record {
+      fits = subst (FitsShape (shape_of v.program)) (sym same) packet.1;
+      bytes = at ∙ ap Some (packet.2 ∙ ap (packet_bytes (shape_of v.program).devices) (sym same));
     }
 
 -- ---- the packets as they are kept

@@ -10,29 +10,32 @@ use Rattle.re_outside.specs.Outside.{FaultKind, Seen}
 use Rattle.re_outside.specs.Port.{past_in}
 use Rattle.re_print.specs.AnswerTexts.{AscendsWhereSet}
 use Rattle.re_terms.specs.Admission.{IsCommandOf, device_count}
-use Rattle.re_terms.specs.DeviceWorlds.{Fine, Memory, Outcome, World, device_of, fared_answer, has_all_entries, has_all_packets, has_all_unsettled, is_down, is_refusal, is_up, lacks_packet, limit_fault, outcome_of, refusal, refused_where, reply, stopped_at, world_after}
+use Rattle.re_terms.specs.DeviceWorlds.{Fine, Memory, Outcome, World, device_of, fared_answer, has_all_entries, has_all_packets, has_all_unsettled, is_down, is_refusal, is_up, lacks_packet, limit_fault, outcome_of, reads_store, refusal, refused_where, reply, stopped_at, world_after}
 use Rattle.re_terms.specs.Worlds.{PlainAnswer, Refused, StoppedAt, limit_code, plain_answer}
 use Rattle.re_terms.specs.declared.command.Answer.{Answer}
 use Rattle.re_terms.specs.declared.command.Answer.TheVariants as answer
 use Rattle.re_terms.specs.declared.command.Command.{Command}
 use Rattle.re_terms.specs.declared.program.Program.{Program}
 use Rattle.re_world.proofs.Committed.{memory_same, refused_fine}
+use Rattle.re_world.proofs.Staying.{counts_still, keeps_still, refused_files}
 use Rattle.re_world.proofs.Within.{within_still}
+use Rattle.re_world.specs.FileSteps.{HasFileSteps, is_disk_refusal}
 use Rattle.re_world.specs.Standing.{HasDevice, IsWorldOf}
 use Rattle.re_world.specs.State.{WorldState, device_in}
-use Rattle.re_world.specs.Stepping.{CountsBy, DoesCommand, DoesInside, NoneRose, Shows}
+use Rattle.re_world.specs.Stepping.{DoesCommand, DoesInside, Shows}
 
 -- what is known of a device's place
 pub device_has : (p : Program) (w : World) (v : WorldState) (s : Seen) (n : ℕ) (o : Option DeviceState) → IsWorldOf p w v s → n < device_count v.program.decls.items → device_in v n ≡ o → HasDevice p w n o (past_in n s)
 device_has p w v s n o is below place = subst (λ q. HasDevice p w n q (past_in n s)) place (is.devices n (subst (λ (q : Program). n < device_count q.decls.items) is.program below))
 
 -- a command that leaves devices, packets and files does so in each world in which it leaves the world
-pub still_does : (v : WorldState) (c : Command) (a : Answer) (tells : Bool) (s : Seen) (o : Outcome) → AscendsWhereSet a → CountsBy c (plain_answer a) s s → Shows v.program c o s s → ((p : Program) (w : World) → IsWorldOf p w v s → plain_answer a ≡ reply p w c o) → ((p : Program) (w : World) → IsWorldOf p w v s → world_after p w c o ≡ w) → DoesCommand tells v v c a s s
-still_does v c a tells s o ascends counts shows answers same = record {
-  program = refl;
+pub still_does : (v : WorldState) (c : Command) (a : Answer) (tells : Bool) (s : Seen) (o : Outcome) → AscendsWhereSet a → is_disk_refusal (plain_answer a) ≡ false → HasFileSteps v v c (plain_answer a) s s → Shows v v c o s s → ((p : Program) (w : World) → IsWorldOf p w v s → plain_answer a ≡ reply p w c o) → ((p : Program) (w : World) → IsWorldOf p w v s → world_after p w c o ≡ w) → DoesCommand tells v v c a s s
+still_does v c a tells s o ascends calm files shows answers same = record {
+  keeps = keeps_still v c (plain_answer a) calm;
   ascends = ascends;
-  counts = counts;
+  counts = counts_still c (plain_answer a) s calm;
   left = λ told. refl;
+  files = λ told. files;
   stepped = λ told. record {
     outcome = o;
     shows = shows;
@@ -43,16 +46,20 @@ still_does v c a tells s o ascends counts shows answers same = record {
 }
 
 -- want of memory
-pub memory_does : (v : WorldState) (c : Command) → DoesInside v v c (answer.No 36)
-memory_does v c tells s = still_does v c (answer.No 36) tells s Memory tt (λ kind. refl) (λ kind. refl) (λ p w is. refl) (λ p w is. memory_same p w c)
+pub memory_does : (v : WorldState) (c : Command) → reads_store c ≡ false → DoesInside v v c (answer.No 36)
+memory_does v c own tells s = still_does v c (answer.No 36) tells s Memory tt refl (refused_files v c (Refused 36) s own refl refl) (λ kind. refl) (λ p w is. refl) (λ p w is. memory_same p w c)
 
 -- a refusal that comes however it fares
-pub refused_does : (v : WorldState) (c : Command) (a : Answer) → AscendsWhereSet a → ((s : Seen) → CountsBy c (plain_answer a) s s) → is_refusal (plain_answer a) ≡ true → ((p : Program) (w : World) (s : Seen) → IsWorldOf p w v s → refusal p w c ≡ Some (plain_answer a)) → DoesInside v v c a
-refused_does v c a ascends counts plain comes tells s =
-    still_does v c a tells s Fine ascends (counts s) (λ kind. refl) (λ p w is. sym (replied p w is)) (λ p w is. refused_fine p w c (ap is_refusal (replied p w is) ∙ plain))
+pub refused_does : (v : WorldState) (c : Command) (a : Answer) → AscendsWhereSet a → is_disk_refusal (plain_answer a) ≡ false → is_refusal (plain_answer a) ≡ true → ((s : Seen) → HasFileSteps v v c (plain_answer a) s s) → ((p : Program) (w : World) (s : Seen) → IsWorldOf p w v s → refusal p w c ≡ Some (plain_answer a)) → DoesInside v v c a
+refused_does v c a ascends calm plain files comes tells s =
+    still_does v c a tells s Fine ascends calm (files s) (λ kind. refl) (λ p w is. sym (replied p w is)) (λ p w is. refused_fine p w c (ap is_refusal (replied p w is) ∙ plain))
   where
     replied : (p : Program) (w : World) → IsWorldOf p w v s → reply p w c Fine ≡ plain_answer a
     replied p w is = ap (λ r. unwrap_or r (fared_answer p w c (outcome_of w c Fine))) (comes p w s is)
+
+-- the same of a command that reads no store
+pub refused_before : (v : WorldState) (c : Command) (a : Answer) → AscendsWhereSet a → is_disk_refusal (plain_answer a) ≡ false → is_refusal (plain_answer a) ≡ true → reads_store c ≡ false → ((p : Program) (w : World) (s : Seen) → IsWorldOf p w v s → refusal p w c ≡ Some (plain_answer a)) → DoesInside v v c a
+refused_before v c a ascends calm plain own comes = refused_does v c a ascends calm plain (λ s. refused_files v c (plain_answer a) s own plain calm) comes
 
 -- ---- the refusals in their order
 
@@ -76,15 +83,15 @@ module _ (p : Program) (w : World) (c : Command) where
       stop_first o not_up stop = (λ i. option_or (refused_where (there i) 28) (option_or (refused_where (not_down i) 26) (option_or (refused_where (not_up i) 27) (option_or (option_map StoppedAt (stop i)) later_refusal))))
 
 -- the device is down
-pub down_does : (v : WorldState) (c : Command) (n : ℕ) → n < device_count v.program.decls.items → device_in v n ≡ None → ((w : World) → is_down w c ≡ not (w.up n)) → ((p : Program) (w : World) (s : Seen) → IsWorldOf p w v s → lacks_packet w c ≡ false) → DoesInside v v c (answer.No 26)
-down_does v c n below place down there =
-    refused_does v c (answer.No 26) tt (λ s kind. refl) refl
+pub down_does : (v : WorldState) (c : Command) (n : ℕ) → n < device_count v.program.decls.items → device_in v n ≡ None → reads_store c ≡ false → ((w : World) → is_down w c ≡ not (w.up n)) → ((p : Program) (w : World) (s : Seen) → IsWorldOf p w v s → lacks_packet w c ≡ false) → DoesInside v v c (answer.No 26)
+down_does v c n below place own down there =
+    refused_before v c (answer.No 26) tt refl refl own
     (λ p w s is. down_first p w c (there p w s is) (down w ∙ ap not (device_has p w v s n None is below place)))
 
 -- the device is stopped
-pub stopped_does : (v : WorldState) (c : Command) (n : ℕ) (x : DeviceState) (at : ℕ) → n < device_count v.program.decls.items → device_in v n ≡ Some x → x.journal.stopped ≡ Some at → ((w : World) → lacks_packet w c ≡ false) → ((w : World) → is_down w c ≡ not (w.up n)) → ((w : World) → is_up w c ≡ false) → ((w : World) → stopped_at w c ≡ w.stop n) → DoesInside v v c (answer.StoppedAt at)
-stopped_does v c n x at below place stop there down up stopped =
-    refused_does v c (answer.StoppedAt at) tt (λ s kind. refl) refl
+pub stopped_does : (v : WorldState) (c : Command) (n : ℕ) (x : DeviceState) (at : ℕ) → n < device_count v.program.decls.items → device_in v n ≡ Some x → x.journal.stopped ≡ Some at → reads_store c ≡ false → ((w : World) → lacks_packet w c ≡ false) → ((w : World) → is_down w c ≡ not (w.up n)) → ((w : World) → is_up w c ≡ false) → ((w : World) → stopped_at w c ≡ w.stop n) → DoesInside v v c (answer.StoppedAt at)
+stopped_does v c n x at below place stop own there down up stopped =
+    refused_before v c (answer.StoppedAt at) tt refl refl own
     (λ p w s is.
     let has = device_has p w v s n (Some x) is below place in
     stop_first p w c (there w) (down w ∙ ap not (ap w.up (sym has.1) ∙ has.0.up)) (Some at) (up w) (stopped w ∙ ap w.stop (sym has.1) ∙ sym has.0.stop ∙ stop))

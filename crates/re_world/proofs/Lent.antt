@@ -35,6 +35,11 @@ set_count [] i y = refl
 set_count (x ∷ xs) zero y = refl
 set_count (x ∷ xs) (suc i) y = ap suc (set_count xs i y)
 
+set_twice : {T : Type 0} (xs : List T) (i : ℕ) (y z : T) → slice_set (slice_set xs i y) i z ≡ slice_set xs i z
+set_twice [] i y z = refl
+set_twice (x ∷ xs) zero y z = refl
+set_twice (x ∷ xs) (suc i) y z = ap (λ l. x ∷ l) (set_twice xs i y z)
+
 -- the device of a place, in a list of places
 abbrev pub placed_in : List (Option DeviceState) → ℕ → Option DeviceState
 placed_in devices n = option_and_then (λ (x : Option DeviceState). x) (slice_get devices n)
@@ -76,6 +81,18 @@ place_below devices n x here = by_place (slice_get devices n) refl
     by_place : (o : Option (Option DeviceState)) → slice_get devices n ≡ o → n < length devices
     by_place None e = absurd (some_none x (sym here ∙ ap (option_and_then (λ (y : Option DeviceState). y)) e))
     by_place (Some y) e = slice_get_within devices n y e
+
+-- given back as it was
+pub back_same : (devices : List (Option DeviceState)) (n : ℕ) (x : DeviceState) → placed_in devices n ≡ Some x → slice_set (slice_set devices n None) n (Some x) ≡ devices
+back_same devices n x here = set_twice devices n None (Some x) ∙ set_same devices n (Some x) (by_place (slice_get devices n) refl)
+  where
+    some_is : (y : DeviceState) → Some y ≡ Some x → y ≡ x
+    some_is y h = cc
+
+    by_place : (o : Option (Option DeviceState)) → slice_get devices n ≡ o → slice_get devices n ≡ Some (Some x)
+    by_place None e = absurd (some_none x (sym here ∙ ap (option_and_then (λ (y : Option DeviceState). y)) e))
+    by_place (Some None) e = absurd (some_none x (sym here ∙ ap (option_and_then (λ (y : Option DeviceState). y)) e))
+    by_place (Some (Some y)) e = e ∙ ap (λ z. Some (Some z)) (some_is y (sym (ap (option_and_then (λ (z : Option DeviceState). z)) e) ∙ here))
 
 pub lent_count : (devices : List (Option DeviceState)) (n : ℕ) (o : Option DeviceState) → length (slice_set devices n o) ≡ length devices
 lent_count devices n o = set_count devices n o
@@ -121,6 +138,13 @@ module _ (v mid new : WorldState) (n : ℕ) (x : DeviceState) (lent : mid ≡ re
 
   pub back_packets : new.packets ≡ v.packets
   back_packets = ap (λ (u : WorldState). u.packets) back ∙ ap (λ (u : WorldState). u.packets) lent
+
+  -- the same device: then all is as it was
+  pub back_all : (y : DeviceState) → device_in v n ≡ Some y → x ≡ y → new ≡ v
+  back_all y here same =
+      back
+      ∙ ap (λ (u : WorldState). record u { devices = slice_set u.devices n (Some x) }) lent
+      ∙ (λ i. record v { devices = (ap (λ z. slice_set (slice_set v.devices n None) n (Some z)) same ∙ back_same v.devices n y here) i })
 
 -- an option that holds nothing
 pub no_some : {T : Type 0} (o : Option T) → ((x : T) → o ≢ Some x) → o ≡ None

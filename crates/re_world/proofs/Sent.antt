@@ -3,6 +3,7 @@ use Rattle.std.proofs.Common.{◌≡◌, ◌<◌, ◌≤◌, ◌+◌, ◌++◌, 
 use Rattle.std.specs.Prelude.{Bool, false, true, ◌≢◌, map, nat_le, option_and_then, slice_get}
 use Rattle.std.specs.List.{All}
 use Rattle.std.specs.Option.{option_or}
+use mathlib.Core.Bool.{true≢false}
 use Rattle.std.proofs.lemmas.Bool.Decides.{nat_tests}
 use Rattle.std.proofs.lemmas.List.{length-append, length-map, map-append}
 use Rattle.std.proofs.lemmas.List.Elements.{All-push}
@@ -26,8 +27,9 @@ use Rattle.re_terms.specs.declared.command.Answer.TheVariants as answer
 use Rattle.re_terms.specs.declared.command.Command.TheVariants as command
 use Rattle.re_terms.specs.declared.program.Program.{Program}
 use Rattle.re_terms.specs.declared.replicated.RState.{RState}
-use Rattle.re_world.proofs.Inside.{device_has, refused_does, unrefused}
+use Rattle.re_world.proofs.Inside.{device_has, refused_before, unrefused}
 use Rattle.re_world.proofs.InsideDone.{done_behind, done_does, replied}
+use Rattle.re_world.proofs.Staying.{keeps_done}
 use Rattle.re_world.proofs.Told.{packet_count}
 use Rattle.re_world.specs.Standing.{HasDevice, IsWorldOf}
 use Rattle.re_world.specs.State.{AllPlaced, IsKept, IsPacket, IsPlaced, WorldState, device_in, seen_of}
@@ -86,7 +88,7 @@ module _ (old : WorldState) (n : ℕ) (x : DeviceState) (of : IsCommandOf old.pr
   -- as many were made as there may be
   pub send_none : 10000 ≤ length old.packets → DoesInside old old (command.Send n) (answer.No 35)
   send_none many =
-      refused_does old (command.Send n) (answer.No 35) tt (λ s kind. refl) refl
+      refused_before old (command.Send n) (answer.No 35) tt refl refl refl
       (λ p w s is. by_packets p w s is ∙ ap (λ b. option_or (refused_where b 35) None) (reached w (subst (λ m. 10000 ≤ m) (packet_count p w old s is) many)))
     where
       reached : (w : World) → 10000 ≤ length w.packets → nat_le 10000 (length w.packets) ≡ true
@@ -121,7 +123,9 @@ module _ (old : WorldState) (n : ℕ) (x : DeviceState) (of : IsCommandOf old.pr
   -- the packet is made
   pub send_does : (new : WorldState) (bytes : List ℕ) (k : ℕ) → length old.packets < 10000 → FitsShape (shape_of x.memory.program) x.memory.settled.state.rep → bytes ≡ packet_bytes (shape_of x.memory.program).devices x.memory.settled.state.rep → new ≡ record old { packets = old.packets ++ bytes ∷ [] } → k ≡ length old.packets → DoesInside old new (command.Send n) (answer.Packet k)
   send_does new bytes k few fits spelt is_new number =
-      done_does old new (command.Send n) (answer.Packet k) tt (λ s kind. refl) (ap (λ (v : WorldState). v.program) is_new) Fine (λ s kind. refl)
+      done_does old new (command.Send n) (answer.Packet k) tt refl
+      (keeps_done old new (command.Send n) (Packet k) refl (ap (λ (v : WorldState). v.program) is_new) (λ d other. ap (λ (v : WorldState). device_in v d) is_new) (λ is. absurd (true≢false (sym is))))
+      (λ s. refl) Fine (λ s kind. refl)
       (λ p w s is. ap Packet (number ∙ packet_count p w old s is) ∙ sym (replied p w (command.Send n) (send_unrefused p w s few is)))
       (λ p w s is.
       let has = device_has p w old s n (Some x) is of place in

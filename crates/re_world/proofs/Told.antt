@@ -22,12 +22,13 @@ use Rattle.re_terms.specs.declared.command.Answer.TheVariants as answer
 use Rattle.re_terms.specs.declared.command.Command.TheVariants as command
 use Rattle.re_terms.specs.declared.program.Program.{Program}
 use Rattle.re_terms.specs.declared.replicated.Pair.{Pair}
-use Rattle.re_world.proofs.Inside.{device_has, lacks_first, memory_does, refused_does, stop_first, unrefused}
+use Rattle.re_world.proofs.Inside.{device_has, lacks_first, memory_does, refused_before, stop_first, unrefused}
 use Rattle.re_world.proofs.InsideDone.{told_does}
 use Rattle.re_world.proofs.Lent.{no_some}
+use Rattle.re_world.specs.FileSteps.{is_disk_refusal}
 use Rattle.re_world.specs.Standing.{IsWorldOf}
 use Rattle.re_world.specs.State.{WorldState, device_in, seen_of}
-use Rattle.re_world.specs.Stepping.{CountsBy, DoesInside, IsSetOrMemory}
+use Rattle.re_world.specs.Stepping.{DoesInside, IsSetOrMemory}
 use Rattle.re_world.specs.declared.world.World.TheInside.{Inside}
 
 -- nothing is behind a reference that isn't there
@@ -38,16 +39,16 @@ nothing_behind r nothing = ap option_copied (no_some r nothing)
 
 module _ (v : WorldState) (n id : ℕ) (x : DeviceState) (of : IsCommandOf v.program (command.Get n id)) (place : device_in v n ≡ Some x) (runs : x.journal.stopped ≡ None) where
   -- an answer that is what is shown of the name in each world whose device this is
-  shown_does : (a : Answer) → AscendsWhereSet a → ((s : Seen) → CountsBy (command.Get n id) (plain_answer a) s s) → ((p : Program) (w : World) → IsDeviceOf p w x → shown p (device_state p w x.memory.device) id ≡ plain_answer a) → DoesInside v v (command.Get n id) a
-  shown_does a ascends counts shows =
-      told_does v (command.Get n id) a ascends counts (λ w. refl)
+  shown_does : (a : Answer) → AscendsWhereSet a → is_disk_refusal (plain_answer a) ≡ false → ((p : Program) (w : World) → IsDeviceOf p w x → shown p (device_state p w x.memory.device) id ≡ plain_answer a) → DoesInside v v (command.Get n id) a
+  shown_does a ascends calm shows =
+      told_does v (command.Get n id) a ascends calm (λ s. refl) (λ w. refl)
       (λ p w s is.
       let has = device_has p w v s n (Some x) is of.0 place in
       (unrefused p w v s (command.Get n id) n x is of.0 place runs refl refl refl refl, sym (shows p w has.0) ∙ ap (λ m. shown p (device_state p w m) id) has.1))
 
   set_does : (a : Answer) → is_set_at x.memory.program.decls.items id ≡ true → IsSetOrMemory x id a → AscendsWhereSet a → DoesInside v v (command.Get n id) a
-  set_does (answer.Members pairs) set at ascends = shown_does (answer.Members pairs) ascends (λ s kind. refl) (λ p w has. shown_set_is p w x has id pairs set at)
-  set_does (answer.No code) set is ascends = subst (λ k. DoesInside v v (command.Get n id) (answer.No k)) (sym is) (memory_does v (command.Get n id))
+  set_does (answer.Members pairs) set at ascends = shown_does (answer.Members pairs) ascends refl (λ p w has. shown_set_is p w x has id pairs set at)
+  set_does (answer.No code) set is ascends = subst (λ k. DoesInside v v (command.Get n id) (answer.No k)) (sym is) (memory_does v (command.Get n id) refl)
   set_does (answer.Entered m) set none ascends = absurd none
   set_does (answer.Applied m) set none ascends = absurd none
   set_does (answer.Settled m) set none ascends = absurd none
@@ -64,7 +65,7 @@ module _ (v : WorldState) (n id : ℕ) (x : DeviceState) (of : IsCommandOf v.pro
   get_does a word set ascends = by_set (is_set_at x.memory.program.decls.items id) refl
     where
       by_set : (b : Bool) → is_set_at x.memory.program.decls.items id ≡ b → DoesInside v v (command.Get n id) a
-      by_set false other = subst (DoesInside v v (command.Get n id)) (sym (word other)) (shown_does (answer.Value _) tt (λ s kind. refl) (λ p w has. shown_word_is p w x has id other))
+      by_set false other = subst (DoesInside v v (command.Get n id)) (sym (word other)) (shown_does (answer.Value _) tt refl (λ p w has. shown_word_is p w x has id other))
       by_set true is = set_does a is (set is) ascends
 
 -- ---- the bytes of packets
@@ -81,7 +82,7 @@ packet_count p w v s is = ap length is.packets ∙ length-map w.packets (spelled
 -- there is no such packet
 pub hex_lacks : (v : WorldState) (k : ℕ) → slice_get v.packets k ≡ None → DoesInside v v (command.Hex k) (answer.No 28)
 hex_lacks v k none =
-    refused_does v (command.Hex k) (answer.No 28) tt (λ s kind. refl) refl
+    refused_before v (command.Hex k) (answer.No 28) tt refl refl refl
     (λ p w s is. lacks_first p w (command.Hex k) (lacks w (subst (λ m. m ≤ k) (packet_count p w v s is) (get_past v.packets k none))))
   where
     lacks : (w : World) → length w.packets ≤ k → nat_le (length w.packets) k ≡ true
@@ -90,7 +91,7 @@ hex_lacks v k none =
 -- its bytes are shown
 pub hex_does : (v : WorldState) (k : ℕ) (bytes : Listed ℕ) → slice_get v.packets k ≡ Some bytes.items → DoesInside v v (command.Hex k) (answer.Hex bytes)
 hex_does v k bytes at =
-    told_does v (command.Hex k) (answer.Hex bytes) tt (λ s kind. refl) (λ w. refl)
+    told_does v (command.Hex k) (answer.Hex bytes) tt refl (λ s. refl) (λ w. refl)
     (λ p w s is. (stop_first p w (command.Hex k) (there w (subst (λ m. k < m) (packet_count p w v s is) (slice_get_within v.packets k bytes.items at))) refl None refl refl, ap Hex (sym (behind p w s is))))
   where
     there : (w : World) → k < length w.packets → nat_le (length w.packets) k ≡ false

@@ -1,5 +1,5 @@
 -- A call that is refused, and not for the disk, has made no call of it.
-use Rattle.std.proofs.Common.{◌≡◌, ℕ, List, [], ◌∷◌, Option, Result, Ok, Err, refl}
+use Rattle.std.proofs.Common.{◌≡◌, ℕ, List, [], ◌∷◌, ◌++◌, Option, Result, Ok, Err, refl}
 use Rattle.std.specs.Prelude.{◌≢◌}
 use Rattle.re_device.specs.Committing.{HasSettlingSteps}
 use Rattle.re_device.specs.Device.{DeviceState}
@@ -26,3 +26,8 @@ unmoved d entries stopped old new (Err fault.DotsSpent) f steps e other = steps
 pub unmoved_settling : {T : Type 0} (d : DeviceState) (entries : List Logged) (stopped : Option ℕ) (old new : Past) (r : Result T DeviceFault) (f : DeviceFault) → (entries ≢ [] → HasSettlingSteps d entries stopped old new r) → (entries ≡ [] → new ≡ old) → r ≡ Err f → f ≢ fault.Disk → new ≡ old
 unmoved_settling d [] stopped old new r f steps none e other = none refl
 unmoved_settling d (l ∷ entries) stopped old new r f steps none e other = unmoved d (l ∷ entries) stopped old new r f (steps (λ h. absurd (cc))) e other
+
+-- behind other entries one more is something
+pub never : {T : Type 0} (xs : List T) (x : T) → xs ++ x ∷ [] ≡ [] → ⊥
+never [] x e = absurd (cc)
+never (y ∷ xs) x e = absurd (cc)

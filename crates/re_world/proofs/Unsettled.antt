@@ -18,7 +18,7 @@ use Rattle.re_outside.specs.Trace.{Past}
 use Rattle.re_print.specs.AnswerTexts.{AscendsWhereSet}
 use Rattle.re_record.specs.Stores.{ComesTo}
 use Rattle.re_terms.specs.Admission.{IsCommandOf, device_count}
-use Rattle.re_terms.specs.DeviceWorlds.{BadStore, Failed, Fine, Memory, OtherProgram, Outcome, World, apply, fared_world, outcome_of, refusal, spelled, world_after}
+use Rattle.re_terms.specs.DeviceWorlds.{BadStore, Failed, Fine, Memory, OtherProgram, Outcome, World, apply, fared_world, is_refusal, outcome_of, refusal, spelled, world_after}
 use Rattle.re_terms.specs.Entries.{turn_entry}
 use Rattle.re_terms.specs.Shapes.{FitsShape, shape_of}
 use Rattle.re_terms.specs.UpdateStates.{state_of_updates}
@@ -32,10 +32,12 @@ use Rattle.re_terms.specs.declared.entry.Logged.{Logged}
 use Rattle.re_terms.specs.declared.program.Program.{Program}
 use Rattle.re_world.proofs.Inside.{device_has}
 use Rattle.re_world.proofs.InsideDone.{HoldsAlike, done_does, inside_behind}
-use Rattle.re_world.proofs.Lent.{back_elsewhere, back_here, place_below}
+use Rattle.re_world.proofs.Lent.{back_elsewhere, back_here, back_same, place_below}
+use Rattle.re_world.proofs.Staying.{keeps_done}
+use Rattle.re_world.specs.FileSteps.{is_disk_refusal}
 use Rattle.re_world.specs.Standing.{HasDevice, IsWorldOf}
 use Rattle.re_world.specs.State.{WorldState, device_in}
-use Rattle.re_world.specs.Stepping.{CountsBy, DoesInside, Shows}
+use Rattle.re_world.specs.Stepping.{DoesInside, Keeps, Shows}
 
 -- ---- the device
 
@@ -126,28 +128,28 @@ ascends_by (answer.No code) r is = tt
 ascends_by (answer.StoppedAt call) r is = tt
 ascends_by (answer.BadFile file place) r is = tt
 
-module _ (p : Program) (c : Command) (s : Seen) where
-  counts_by : (r : Result ℕ DeviceFault) → r ≢ Err fault.Disk → CountsBy c (applied_as r) s s
-  counts_by (Ok n) never = λ kind. refl
-  counts_by (Err fault.Memory) never = λ kind. refl
-  counts_by (Err fault.Disk) never = absurd (never refl)
-  counts_by (Err (fault.Stopped at)) never = λ kind. refl
-  counts_by (Err fault.Full) never = λ kind. refl
-  counts_by (Err fault.LooseFull) never = λ kind. refl
-  counts_by (Err fault.SetFull) never = λ kind. refl
-  counts_by (Err fault.CounterFull) never = λ kind. refl
-  counts_by (Err fault.DotsSpent) never = λ kind. refl
+-- no file call fails in it
+calm_by : (r : Result ℕ DeviceFault) → r ≢ Err fault.Disk → is_disk_refusal (applied_as r) ≡ false
+calm_by (Ok n) never = refl
+calm_by (Err fault.Memory) never = refl
+calm_by (Err fault.Disk) never = absurd (never refl)
+calm_by (Err (fault.Stopped at)) never = refl
+calm_by (Err fault.Full) never = refl
+calm_by (Err fault.LooseFull) never = refl
+calm_by (Err fault.SetFull) never = refl
+calm_by (Err fault.CounterFull) never = refl
+calm_by (Err fault.DotsSpent) never = refl
 
-  shows_by : (stopped : Option ℕ) (r : Result ℕ DeviceFault) → r ≢ Err fault.Disk → Shows p c (fared_as stopped false r) s s
-  shows_by stopped (Ok n) never = λ kind. refl
-  shows_by stopped (Err fault.Memory) never = λ kind. refl
-  shows_by stopped (Err fault.Disk) never = absurd (never refl)
-  shows_by stopped (Err (fault.Stopped at)) never = λ kind. refl
-  shows_by stopped (Err fault.Full) never = λ kind. refl
-  shows_by stopped (Err fault.LooseFull) never = λ kind. refl
-  shows_by stopped (Err fault.SetFull) never = λ kind. refl
-  shows_by stopped (Err fault.CounterFull) never = λ kind. refl
-  shows_by stopped (Err fault.DotsSpent) never = λ kind. refl
+shows_by : (old new : WorldState) (c : Command) (s : Seen) (stopped : Option ℕ) (r : Result ℕ DeviceFault) → r ≢ Err fault.Disk → Shows old new c (fared_as stopped false r) s s
+shows_by old new c s stopped (Ok n) never = λ kind. refl
+shows_by old new c s stopped (Err fault.Memory) never = λ kind. refl
+shows_by old new c s stopped (Err fault.Disk) never = absurd (never refl)
+shows_by old new c s stopped (Err (fault.Stopped at)) never = λ kind. refl
+shows_by old new c s stopped (Err fault.Full) never = λ kind. refl
+shows_by old new c s stopped (Err fault.LooseFull) never = λ kind. refl
+shows_by old new c s stopped (Err fault.SetFull) never = λ kind. refl
+shows_by old new c s stopped (Err fault.CounterFull) never = λ kind. refl
+shows_by old new c s stopped (Err fault.DotsSpent) never = λ kind. refl
 
 -- ---- the command
 
@@ -163,6 +165,7 @@ pub record IsLazy (old new : WorldState) (n : ℕ) (x x' : DeviceState) (t : Adm
   pub generation : x'.generation ≡ x.generation
   pub own : KeepsOwn x x'
   pub never : r ≢ Err fault.Disk
+  pub refused : (f : DeviceFault) → r ≡ Err f → x' ≡ x
 
 module _ (old new : WorldState) (n : ℕ) (x x' : DeviceState) (t : Admitted) (a : Answer) (r : Result ℕ DeviceFault) (is : IsLazy old new n x x' t a r) where
   steps_here : StepsTo x x' (command.Lazy n t) (fared_as x'.journal.stopped false r) (applied_as r)
@@ -191,10 +194,23 @@ module _ (old new : WorldState) (n : ℕ) (x x' : DeviceState) (t : Admitted) (a
       (subst (All (λ us. FitsShape (shape_of p) (state_of_updates (shape_of p) us))) (sym (lazy_packets p w n t o)) world.fit)
       (subst (λ q. HasDevice p (world_after p w (command.Lazy n t) o) n q (past_in n s)) (sym (ap (λ (v : WorldState). device_in v n) is.back ∙ back_here old.devices n None (Some x') below)) (lazy_has p w s world))
 
+  -- a refused one leaves all as it was
+  lazy_refused : (q : Result ℕ DeviceFault) → r ≡ q → is_refusal (applied_as q) ≡ true → new ≡ old
+  lazy_refused (Ok m) same refused = absurd (true≢false (sym refused))
+  lazy_refused (Err f) same refused = is.back ∙ (λ i. record old { devices = (ap (λ y. slice_set (slice_set old.devices n None) n (Some y)) (is.refused f same) ∙ back_same old.devices n x is.place) i })
+
+  calm : is_disk_refusal (plain_answer a) ≡ false
+  calm = ap is_disk_refusal is.answer ∙ calm_by r is.never
+
+  lazy_keeps : Keeps old new (command.Lazy n t) (plain_answer a)
+  lazy_keeps =
+      keeps_done old new (command.Lazy n t) (plain_answer a) calm (ap (λ (v : WorldState). v.program) is.back)
+      (λ d other. ap (λ (v : WorldState). device_in v d) is.back ∙ back_elsewhere old.devices n d None (Some x') (λ same. other (ap Some (sym same))))
+      (λ refused. lazy_refused r refl (ap is_refusal (sym is.answer) ∙ refused))
+
   -- it is a step of each world
   pub lazy_does : DoesInside old new (command.Lazy n t) a
   lazy_does =
-      done_does old new (command.Lazy n t) a (ascends_by a r is.answer)
-      (λ s. subst (λ q. CountsBy (command.Lazy n t) q s s) (sym is.answer) (counts_by old.program (command.Lazy n t) s r is.never))
-      (ap (λ (v : WorldState). v.program) is.back) (fared_as x'.journal.stopped false r) (λ s. shows_by old.program (command.Lazy n t) s x'.journal.stopped r is.never)
+      done_does old new (command.Lazy n t) a (ascends_by a r is.answer) calm lazy_keeps (λ s. refl)
+      (fared_as x'.journal.stopped false r) (λ s. shows_by old new (command.Lazy n t) s x'.journal.stopped r is.never)
       (λ p w s world. is.answer ∙ steps_here.answers p w (device_has p w old s n (Some x) world is.of.0 is.place).0 tt) lazy_world

@@ -1,5 +1,5 @@
 //! The calls of a device that commit, over its files outside.
-ghost use Rattle.std.specs.Prelude.{◌≡◌, true, ℕ};
+ghost use Rattle.std.specs.Prelude.{◌≡◌, ◌++◌, ◌∷◌, [], true, ℕ};
 ghost use Rattle.re_device.specs.Committing.{HasDiskCause};
 ghost use Rattle.re_device.specs.Device.{current, logged, with_entry};
 ghost use Rattle.re_device.specs.Stepping.{IsPacketOf, entered_as, settled_as};
@@ -8,7 +8,7 @@ ghost use Rattle.re_outside.specs.Port.{disk_faults, other_faults, past_in};
 ghost use Rattle.re_terms.specs.Admission.{IsAdmitted};
 ghost use Rattle.re_terms.specs.Shapes.{FitsShape, shape_of};
 ghost use Rattle.re_terms.specs.declared.command.Command.TheVariants as command;
-ghost use Rattle.re_world.specs.Calls.{Commits};
+ghost use Rattle.re_world.specs.Calls.{Commits, Leaves};
 
 use re_device::{Device, DeviceFault, Done};
 use re_eval::Steps;
@@ -25,9 +25,8 @@ pub(crate) fn take_turn<O: Outside, L: Ledger>(
     steps: &mut Steps<L>,
 ) -> Result<Done, DeviceFault>
     requires turn { IsAdmitted device.old.memory.program turn.turn }
-    ensures commits { O.tells ≡ true → Commits (λ p w. Unit {0}) (current (with_entry device.old.memory (logged device.old.memory (Entry.Turn turn.turn)))) (command.Turn device.old.memory.device turn) entered_as device.old device.new (past_in number (O.seen out.old)) (past_in number (O.seen out.new)) result }
-    ensures program { device.new.memory.program ≡ device.old.memory.program }
-    ensures number { device.new.memory.device ≡ device.old.memory.device }
+    ensures commits { O.tells ≡ true → Commits (λ p w. Unit {0}) (device.old.memory.unsettled ++ logged device.old.memory (Entry.Turn turn.turn) ∷ []) (current (with_entry device.old.memory (logged device.old.memory (Entry.Turn turn.turn)))) (command.Turn device.old.memory.device turn) entered_as device.old device.new (past_in number (O.seen out.old)) (past_in number (O.seen out.new)) result }
+    ensures leaves { Leaves device.old device.new result }
     ensures cause { HasDiskCause (disk_faults number (O.seen out.old)) (disk_faults number (O.seen out.new)) result }
     ensures others { other_faults number (O.seen out.new) ≡ other_faults number (O.seen out.old) }
     ensures left { O.tells ≡ true → (O.seen out.new).left ≡ (O.seen out.old).left }
@@ -45,9 +44,8 @@ pub(crate) fn take_merge<O: Outside, L: Ledger>(
     steps: &mut Steps<L>,
 ) -> Result<Done, DeviceFault>
     requires state { FitsShape (shape_of device.old.memory.program) state }
-    ensures commits { (k : ℕ) → O.tells ≡ true → Commits (IsPacketOf device.old k state) (current (with_entry device.old.memory (logged device.old.memory (Entry.Merge state)))) (command.Deliver k device.old.memory.device) entered_as device.old device.new (past_in number (O.seen out.old)) (past_in number (O.seen out.new)) result }
-    ensures program { device.new.memory.program ≡ device.old.memory.program }
-    ensures number { device.new.memory.device ≡ device.old.memory.device }
+    ensures commits { (k : ℕ) → O.tells ≡ true → Commits (IsPacketOf device.old k state) (device.old.memory.unsettled ++ logged device.old.memory (Entry.Merge state) ∷ []) (current (with_entry device.old.memory (logged device.old.memory (Entry.Merge state)))) (command.Deliver k device.old.memory.device) entered_as device.old device.new (past_in number (O.seen out.old)) (past_in number (O.seen out.new)) result }
+    ensures leaves { Leaves device.old device.new result }
     ensures cause { HasDiskCause (disk_faults number (O.seen out.old)) (disk_faults number (O.seen out.new)) result }
     ensures others { other_faults number (O.seen out.new) ≡ other_faults number (O.seen out.old) }
     ensures left { O.tells ≡ true → (O.seen out.new).left ≡ (O.seen out.old).left }
@@ -62,9 +60,8 @@ pub(crate) fn settle_entries<O: Outside>(
     number: u8,
     device: &mut Device,
 ) -> Result<u64, DeviceFault>
-    ensures commits { O.tells ≡ true → Commits (λ p w. Unit {0}) (current device.old.memory) (command.Settle device.old.memory.device) settled_as device.old device.new (past_in number (O.seen out.old)) (past_in number (O.seen out.new)) result }
-    ensures program { device.new.memory.program ≡ device.old.memory.program }
-    ensures number { device.new.memory.device ≡ device.old.memory.device }
+    ensures commits { O.tells ≡ true → Commits (λ p w. Unit {0}) device.old.memory.unsettled (current device.old.memory) (command.Settle device.old.memory.device) settled_as device.old device.new (past_in number (O.seen out.old)) (past_in number (O.seen out.new)) result }
+    ensures leaves { Leaves device.old device.new result }
     ensures cause { HasDiskCause (disk_faults number (O.seen out.old)) (disk_faults number (O.seen out.new)) result }
     ensures others { other_faults number (O.seen out.new) ≡ other_faults number (O.seen out.old) }
     ensures left { O.tells ≡ true → (O.seen out.new).left ≡ (O.seen out.old).left }

@@ -1,5 +1,5 @@
 -- A delivery is a step of the world.
-use Rattle.std.proofs.Common.{◌≡◌, ◌∙◌, ◌<◌, ℕ, List, Option, Some, Result, Ok, Err, Bor, refl, sym, ap, subst, length}
+use Rattle.std.proofs.Common.{◌≡◌, ◌∙◌, ◌<◌, ◌++◌, ◌∷◌, [], ℕ, List, Option, Some, Result, Ok, Err, Bor, refl, sym, ap, subst, length}
 use Rattle.std.specs.Prelude.{◌^◌, map, slice_get}
 use Rattle.std.specs.Option.{option_copied}
 use Rattle.re_device.specs.Device.{current, logged, with_entry}
@@ -13,9 +13,9 @@ use Rattle.re_terms.specs.declared.entry.Entry.TheVariants as entry
 use Rattle.re_terms.specs.declared.program.Program.{Program}
 use Rattle.re_world.proofs.CommitKinds.{deliver_commit}
 use Rattle.re_world.proofs.Doing.{commit_does}
-use Rattle.re_world.proofs.Delivered.{all_at, kept_at, none_there, one_there, packet_of, packet_short}
-use Rattle.re_world.proofs.Inside.{down_does, lacks_first, memory_does, refused_does}
-use Rattle.re_world.proofs.Lent.{back_others, back_packets, back_place, back_program, lent_none, no_some}
+use Rattle.re_world.proofs.Delivered.{all_at, kept_at, none_there, one_there, packet_of, packet_short, packet_state}
+use Rattle.re_world.proofs.Inside.{down_does, lacks_first, memory_does, refused_before}
+use Rattle.re_world.proofs.Lent.{back_all, back_others, back_packets, back_place, back_program, lent_none, no_some}
 use Rattle.re_outside.specs.Listed.{Listed}
 use Rattle.re_terms.proofs.ProgramShapes.{program_shape}
 use Rattle.re_terms.specs.Shapes.{FitsShape, IsShape, shape_of}
@@ -50,7 +50,7 @@ never_refused r fault place is fails = refuted (subst (λ f. Fails {X = RState} 
 pub returns-in_default : goal.returns-in_default
 returns-in_default g c =
     let v = c.args.self.now in
-    refused_does v (command.Deliver c.args.packet c.args.number) (answer.No 28) tt (λ s kind. refl) refl
+    refused_before v (command.Deliver c.args.packet c.args.number) (answer.No 28) tt refl refl refl
     (λ p w s is. lacks_first p w (command.Deliver c.args.packet c.args.number) (none_there p w v s is c.self.inside.packets.items (packets_are v c.self.inside c.self.view_is) c.args.packet (sym c.get.ensures ∙ ap option_copied c.in_default.is)))
     g.O.Outside.tells (g.O.Outside.seen c.args.out.now)
 
@@ -63,7 +63,7 @@ decode-requires-clause-limit g c =
     subst (λ (l : List ℕ). length l < 2 ^ 32) (sym c.as_slice.ensures) (packet_short c.self.inside.program c.in-Some.bytes.now.items c.self.invariant.is_program (all_at (IsPacket c.self.inside.program) (seen_of c.self.inside).packets c.args.packet c.in-Some.bytes.now.items c.self.invariant.packets at))
 
 pub returns-in-Err-Memory : goal.returns-in-Err-Memory
-returns-in-Err-Memory g c = memory_does c.args.self.now (command.Deliver c.args.packet c.args.number) g.O.Outside.tells (g.O.Outside.seen c.args.out.now)
+returns-in-Err-Memory g c = memory_does c.args.self.now (command.Deliver c.args.packet c.args.number) refl g.O.Outside.tells (g.O.Outside.seen c.args.out.now)
 
 pub unreachable-requires : goal.unreachable-requires
 unreachable-requires g c =
@@ -77,14 +77,14 @@ returns-in_default-lend g c =
     let s = g.O.Outside.seen c.args.out.now in
     let place = sym c.lend.ensures.device ∙ no_some c.lend.result c.in_default-lend.not-Some in
     subst (λ u. DoesCommand g.O.Outside.tells v u (command.Deliver c.args.packet c.args.number) (answer.No 26) s s) (sym (lent_none v c.lend.new.self c.args.number c.lend.ensures.rest place))
-    (down_does v (command.Deliver c.args.packet c.args.number) c.args.number c.requires place (λ w. refl) (λ p w t is. one_there p w v t is c.self.inside.packets.items (packets_are v c.self.inside c.self.view_is) c.args.packet c.in-Some.bytes.now (at_place c.get.result c.in-Some.bytes c.self.inside.packets.items c.args.packet c.get.ensures c.in-Some.is)) g.O.Outside.tells s)
+    (down_does v (command.Deliver c.args.packet c.args.number) c.args.number c.requires place refl (λ w. refl) (λ p w t is. one_there p w v t is c.self.inside.packets.items (packets_are v c.self.inside c.self.view_is) c.args.packet c.in-Some.bytes.now (at_place c.get.result c.in-Some.bytes c.self.inside.packets.items c.args.packet c.get.ensures c.in-Some.is)) g.O.Outside.tells s)
 
 pub give_back-requires-clause-placed : goal.give_back-requires-clause-placed
 give_back-requires-clause-placed g c =
     let placed : IsDeviceIn c.args.self.now.program c.args.number c.in-Some-lend.device = c.in-Some-lend.ensures.placed in
     record {
-      program = c.take_merge-taken.ensures.program ∙ placed.program ∙ sym (ap (λ (u : WorldState). u.program) c.lend.ensures.rest);
-      number_is = c.take_merge-taken.ensures.number ∙ placed.number_is;
+      program = c.take_merge-taken.ensures.leaves.program ∙ placed.program ∙ sym (ap (λ (u : WorldState). u.program) c.lend.ensures.rest);
+      number_is = c.take_merge-taken.ensures.leaves.number ∙ placed.number_is;
     }
 
 pub returns : goal.returns
@@ -95,14 +95,14 @@ returns g c =
     let x' = c.take_merge-taken.new.device in
     let placed : IsDeviceIn v.program n x = c.in-Some-lend.ensures.placed in
     let below = subst (λ k. n < k) (sym c.lend.ensures.count) c.requires in
-    commit_does (IsPacketOf x c.args.packet c.in-Ok.state) (λ (d : Done). Entered d.number) (current (with_entry x.memory (logged x.memory (entry.Merge c.in-Ok.state)))) g.O.Outside.tells v c.give_back.new.self x x' (λ k. command.Deliver c.args.packet k) c.entered.result (g.O.Outside.seen c.args.out.now) (g.O.Outside.seen c.take_merge-taken.new.out) c.take_merge-taken.result n placed.number_is
+    commit_does (IsPacketOf x c.args.packet c.in-Ok.state) (λ (d : Done). Entered d.number) (x.memory.unsettled ++ logged x.memory (entry.Merge c.in-Ok.state) ∷ []) (current (with_entry x.memory (logged x.memory (entry.Merge c.in-Ok.state)))) g.O.Outside.tells v c.give_back.new.self x x' (λ k. command.Deliver c.args.packet k) c.entered.result (g.O.Outside.seen c.args.out.now) (g.O.Outside.seen c.take_merge-taken.new.out) c.take_merge-taken.result n placed.number_is
     (record {
       of = c.requires;
       below = c.requires;
       device_is = refl;
       commit = λ p w. deliver_commit p w n c.args.packet;
       place = sym c.lend.ensures.device ∙ c.in-Some-lend.is;
-      number = c.take_merge-taken.ensures.number ∙ placed.number_is;
+      number = c.take_merge-taken.ensures.leaves.number ∙ placed.number_is;
       new_place = back_place v c.lend.new.self c.give_back.new.self n x' c.lend.ensures.rest c.give_back.ensures below;
       other_places = back_others v c.lend.new.self c.give_back.new.self n x' c.lend.ensures.rest c.give_back.ensures;
       program = back_program v c.lend.new.self c.give_back.new.self n x' c.lend.ensures.rest c.give_back.ensures;
@@ -119,5 +119,19 @@ returns g c =
           (λ r fits same. read_is c.in-Ok.state r (c.in-Ok.ensures.only r (subst (λ q. FitsShape q r) (sym (c.self.invariant.shape ∙ ap shape_of program)) fits) (c.as_slice.ensures ∙ same ∙ ap (λ (q : Shape). packet_bytes q.devices r) (sym (c.self.invariant.shape ∙ ap shape_of program)))));
       reads = λ told f. g.met.O.Outside.reads_left c.take_merge-taken.new.out n f (g.met.O.Outside.tells_always c.take_merge-taken.new.out ∙ told);
       enters = λ y. refl;
-      counts = λ y none. none;
+      calm = λ y. (refl, refl);
+      leaves = c.take_merge-taken.ensures.leaves;
+      same = back_all v c.lend.new.self c.give_back.new.self n x' c.lend.ensures.rest c.give_back.ensures x (sym c.lend.ensures.device ∙ c.in-Some-lend.is);
+      writes =
+          let program : c.self.inside.program ≡ v.program = ap (λ (u : WorldState). u.program) c.self.view_is in
+          let place = at_place c.get.result c.in-Some.bytes c.self.inside.packets.items c.args.packet c.get.ensures c.in-Some.is in
+          (
+            c.in-Ok.state,
+            packet_state v c.args.packet c.in-Some.bytes.now.items c.in-Ok.state (kept_at v c.self.inside.packets.items c.args.packet c.in-Some.bytes.now (packets_are v c.self.inside c.self.view_is) place)
+                (subst (λ q. IsPacket q c.in-Some.bytes.now.items) program (all_at (IsPacket c.self.inside.program) (seen_of c.self.inside).packets c.args.packet c.in-Some.bytes.now.items c.self.invariant.packets (kept_at (seen_of c.self.inside) c.self.inside.packets.items c.args.packet c.in-Some.bytes.now refl place)))
+                (λ r fits same. read_is c.in-Ok.state r (c.in-Ok.ensures.only r (subst (λ q. FitsShape q r) (sym (c.self.invariant.shape ∙ ap shape_of program)) fits) (c.as_slice.ensures ∙ same ∙ ap (λ (q : Shape). packet_bytes q.devices r) (sym (c.self.invariant.shape ∙ ap shape_of program))))),
+            refl,
+          );
+      files = λ made. made;
+      fails = λ at gate_open stops. (n, refl, stops);
     })

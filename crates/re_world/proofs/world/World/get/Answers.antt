@@ -8,12 +8,12 @@ use Rattle.re_world.proofs.Told.{get_does, nothing_behind}
 use Rattle.re_world.proofs.world.World.get.Goals as goal
 
 pub returns-in_default : goal.returns-in_default
-returns-in_default c = down_does c.args.self.now (command.Get c.args.number c.args.id) c.args.number c.requires.0 (sym c.device.ensures ∙ nothing_behind c.device.result c.in_default.not-Some) (λ u. refl) (λ p u s is. refl)
+returns-in_default c = down_does c.args.self.now (command.Get c.args.number c.args.id) c.args.number c.requires.0 (sym c.device.ensures ∙ nothing_behind c.device.result c.in_default.not-Some) refl (λ u. refl) (λ p u s is. refl)
 
 pub returns-in-Some-stopped : goal.returns-in-Some-stopped
 returns-in-Some-stopped c =
     stopped_does c.args.self.now (command.Get c.args.number c.args.id) c.args.number c.in-Some.device.now c.in-Some-stopped.at c.requires.0 (sym c.device.ensures ∙ ap option_copied c.in-Some.is)
-    (sym c.stopped.ensures ∙ c.in-Some-stopped.is) (λ u. refl) (λ u. refl) (λ u. refl) (λ u. refl)
+    (sym c.stopped.ensures ∙ c.in-Some-stopped.is) refl (λ u. refl) (λ u. refl) (λ u. refl) (λ u. refl)
 
 pub returns : goal.returns
 returns c =

@@ -16,4 +16,4 @@ returns-in-Ok c =
     hex_does c.args.self.now c.args.packet c.from_vec.result (packet_at c.self.inside c.args.self.now c.args.packet _ c.self.view_is (sym c.get.ensures ∙ ap option_copied c.in-Some.is) ∙ ap Some (sym copied))
 
 pub returns-in-Err : goal.returns-in-Err
-returns-in-Err c = memory_does c.args.self.now (command.Hex c.args.packet)
+returns-in-Err c = memory_does c.args.self.now (command.Hex c.args.packet) refl

@@ -19,7 +19,7 @@ returns-in_default g c =
     let n = c.args.number in
     let asked = command.Lazy n c.args.turn in
     let none = sym c.lend.ensures.device ∙ no_some c.lend.result c.in_default.not-Some in
-    subst (λ v. DoesInside old v asked (answer.No 26)) (sym (none_lent old c.lend.new.self n none c.lend.ensures.rest)) (down_does old asked n c.requires.0 none (λ u. refl) (λ p u s is. refl))
+    subst (λ v. DoesInside old v asked (answer.No 26)) (sym (none_lent old c.lend.new.self n none c.lend.ensures.rest)) (down_does old asked n c.requires.0 none refl (λ u. refl) (λ p u s is. refl))
 
 pub lazy-applied-requires : goal.lazy-applied-requires
 lazy-applied-requires g c = subst (λ q. IsAdmitted q c.args.turn.turn) (sym c.in-Some.ensures.placed.program) c.requires.1
@@ -51,6 +51,7 @@ returns-in-Ok g c =
       generation = c.lazy-applied.ensures.store.1;
       own = keeps_own x x' _ r c.lazy-applied.ensures.memory c.lazy-applied.ensures.unchanged;
       never = c.lazy-applied.ensures.never;
+      refused = c.lazy-applied.ensures.unchanged;
     })
 
 pub returns-in-Err : goal.returns-in-Err
@@ -72,4 +73,5 @@ returns-in-Err g c =
       generation = c.lazy-applied.ensures.store.1;
       own = keeps_own x x' _ r c.lazy-applied.ensures.memory c.lazy-applied.ensures.unchanged;
       never = c.lazy-applied.ensures.never;
+      refused = c.lazy-applied.ensures.unchanged;
     })

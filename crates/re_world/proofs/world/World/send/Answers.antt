@@ -13,12 +13,12 @@ use Rattle.re_world.specs.Stepping.{DoesInside}
 use Rattle.re_world.proofs.world.World.send.Goals as goal
 
 pub returns-in_default : goal.returns-in_default
-returns-in_default c = down_does c.args.self.now (command.Send c.args.number) c.args.number c.requires (sym c.device.ensures ∙ nothing_behind c.device.result c.in_default.not-Some) (λ u. refl) (λ p u s is. refl)
+returns-in_default c = down_does c.args.self.now (command.Send c.args.number) c.args.number c.requires (sym c.device.ensures ∙ nothing_behind c.device.result c.in_default.not-Some) refl (λ u. refl) (λ p u s is. refl)
 
 pub returns-in-Some-stopped : goal.returns-in-Some-stopped
 returns-in-Some-stopped c =
     stopped_does c.args.self.now (command.Send c.args.number) c.args.number c.in-Some.device.now c.in-Some-stopped.at c.requires (sym c.device.ensures ∙ ap option_copied c.in-Some.is)
-    (sym c.stopped.ensures ∙ c.in-Some-stopped.is) (λ u. refl) (λ u. refl) (λ u. refl) (λ u. refl)
+    (sym c.stopped.ensures ∙ c.in-Some-stopped.is) refl (λ u. refl) (λ u. refl) (λ u. refl) (λ u. refl)
 
 pub returns-then-packet-ge-MOST_PACKETS : goal.returns-then-packet-ge-MOST_PACKETS
 returns-then-packet-ge-MOST_PACKETS c =
@@ -27,7 +27,7 @@ returns-then-packet-ge-MOST_PACKETS c =
     (omega (arith, c.if-packet-ge-MOST_PACKETS.true, c.len-packet.ensures, seen_count c.self.inside c.args.self.now c.self.view_is))
 
 pub returns-in_default-packet : goal.returns-in_default-packet
-returns-in_default-packet c = memory_does c.args.self.now (command.Send c.args.number)
+returns-in_default-packet c = memory_does c.args.self.now (command.Send c.args.number) refl
 
 pub invariant_of-self : goal.invariant_of-self
 invariant_of-self c = kept_same c.self.inside c.push.new.self c.self.invariant c.in_default-push.ensures.err
@@ -35,7 +35,7 @@ invariant_of-self c = kept_same c.self.inside c.push.new.self c.self.invariant c
 pub returns-in_default-push : goal.returns-in_default-push
 returns-in_default-push c =
     subst (λ v. DoesInside c.args.self.now v (command.Send c.args.number) (answer.No 36)) (sym (seen_same c.self.inside c.args.self.now c.push.new.self c.self.view_is c.in_default-push.ensures.err))
-    (memory_does c.args.self.now (command.Send c.args.number))
+    (memory_does c.args.self.now (command.Send c.args.number) refl)
 
 pub invariant_of-self-2 : goal.invariant_of-self-2
 invariant_of-self-2 c =

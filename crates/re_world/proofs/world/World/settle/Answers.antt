@@ -7,7 +7,7 @@ use Rattle.re_terms.specs.declared.command.Command.TheVariants as command
 use Rattle.re_world.proofs.CommitKinds.{settle_commit}
 use Rattle.re_world.proofs.Doing.{commit_does}
 use Rattle.re_world.proofs.Inside.{down_does}
-use Rattle.re_world.proofs.Lent.{back_others, back_packets, back_place, back_program, lent_none, no_some}
+use Rattle.re_world.proofs.Lent.{back_all, back_others, back_packets, back_place, back_program, lent_none, no_some}
 use Rattle.re_world.specs.State.{IsDeviceIn, WorldState}
 use Rattle.re_world.specs.Stepping.{DoesCommand}
 use Rattle.re_world.proofs.world.World.settle.Goals as goal
@@ -18,14 +18,14 @@ returns-in_default g c =
     let s = g.O.Outside.seen c.args.out.now in
     let place = sym c.lend.ensures.device ∙ no_some c.lend.result c.in_default.not-Some in
     subst (λ u. DoesCommand g.O.Outside.tells v u (command.Settle c.args.number) (answer.No 26) s s) (sym (lent_none v c.lend.new.self c.args.number c.lend.ensures.rest place))
-    (down_does v (command.Settle c.args.number) c.args.number c.requires place (λ w. refl) (λ p w t is. refl) g.O.Outside.tells s)
+    (down_does v (command.Settle c.args.number) c.args.number c.requires place refl (λ w. refl) (λ p w t is. refl) g.O.Outside.tells s)
 
 pub give_back-requires-clause-placed : goal.give_back-requires-clause-placed
 give_back-requires-clause-placed g c =
     let placed : IsDeviceIn c.args.self.now.program c.args.number c.in-Some.device = c.in-Some.ensures.placed in
     record {
-      program = c.settle_entries-taken.ensures.program ∙ placed.program ∙ sym (ap (λ (u : WorldState). u.program) c.lend.ensures.rest);
-      number_is = c.settle_entries-taken.ensures.number ∙ placed.number_is;
+      program = c.settle_entries-taken.ensures.leaves.program ∙ placed.program ∙ sym (ap (λ (u : WorldState). u.program) c.lend.ensures.rest);
+      number_is = c.settle_entries-taken.ensures.leaves.number ∙ placed.number_is;
     }
 
 pub returns : goal.returns
@@ -36,14 +36,14 @@ returns g c =
     let x' = c.settle_entries-taken.new.device in
     let placed : IsDeviceIn v.program n x = c.in-Some.ensures.placed in
     let below = subst (λ k. n < k) (sym c.lend.ensures.count) c.requires in
-    commit_does (λ p w. Unit {0}) Settled (current x.memory) g.O.Outside.tells v c.give_back.new.self x x' (λ k. command.Settle k) c.settled.result (g.O.Outside.seen c.args.out.now) (g.O.Outside.seen c.settle_entries-taken.new.out) c.settle_entries-taken.result n placed.number_is
+    commit_does (λ p w. Unit {0}) Settled x.memory.unsettled (current x.memory) g.O.Outside.tells v c.give_back.new.self x x' (λ k. command.Settle k) c.settled.result (g.O.Outside.seen c.args.out.now) (g.O.Outside.seen c.settle_entries-taken.new.out) c.settle_entries-taken.result n placed.number_is
     (record {
       of = c.requires;
       below = c.requires;
       device_is = refl;
       commit = λ p w. settle_commit p w n;
       place = sym c.lend.ensures.device ∙ c.in-Some.is;
-      number = c.settle_entries-taken.ensures.number ∙ placed.number_is;
+      number = c.settle_entries-taken.ensures.leaves.number ∙ placed.number_is;
       new_place = back_place v c.lend.new.self c.give_back.new.self n x' c.lend.ensures.rest c.give_back.ensures below;
       other_places = back_others v c.lend.new.self c.give_back.new.self n x' c.lend.ensures.rest c.give_back.ensures;
       program = back_program v c.lend.new.self c.give_back.new.self n x' c.lend.ensures.rest c.give_back.ensures;
@@ -57,5 +57,10 @@ returns g c =
       holds = λ p w is. tt;
       reads = λ told f. g.met.O.Outside.reads_left c.settle_entries-taken.new.out n f (g.met.O.Outside.tells_always c.settle_entries-taken.new.out ∙ told);
       enters = λ y. refl;
-      counts = λ y none. none;
+      calm = λ y. (refl, refl);
+      leaves = c.settle_entries-taken.ensures.leaves;
+      same = back_all v c.lend.new.self c.give_back.new.self n x' c.lend.ensures.rest c.give_back.ensures x (sym c.lend.ensures.device ∙ c.in-Some.is);
+      writes = refl;
+      files = λ made. made;
+      fails = λ at gate_open stops. (n, refl, stops);
     })

@@ -10,7 +10,7 @@ use Rattle.re_terms.specs.declared.entry.Entry.TheVariants as entry
 use Rattle.re_world.proofs.CommitKinds.{turn_commit}
 use Rattle.re_world.proofs.Doing.{commit_does}
 use Rattle.re_world.proofs.Inside.{down_does}
-use Rattle.re_world.proofs.Lent.{back_others, back_packets, back_place, back_program, lent_none, no_some}
+use Rattle.re_world.proofs.Lent.{back_all, back_others, back_packets, back_place, back_program, lent_none, no_some}
 use Rattle.re_world.specs.State.{IsDeviceIn, WorldState}
 use Rattle.re_world.specs.Stepping.{DoesCommand}
 use Rattle.re_world.proofs.world.World.turn.Goals as goal
@@ -21,7 +21,7 @@ returns-in_default g c =
     let s = g.O.Outside.seen c.args.out.now in
     let place = sym c.lend.ensures.device ∙ no_some c.lend.result c.in_default.not-Some in
     subst (λ u. DoesCommand g.O.Outside.tells v u (command.Turn c.args.number c.args.turn) (answer.No 26) s s) (sym (lent_none v c.lend.new.self c.args.number c.lend.ensures.rest place))
-    (down_does v (command.Turn c.args.number c.args.turn) c.args.number c.requires.0 place (λ w. refl) (λ p w t is. refl) g.O.Outside.tells s)
+    (down_does v (command.Turn c.args.number c.args.turn) c.args.number c.requires.0 place refl (λ w. refl) (λ p w t is. refl) g.O.Outside.tells s)
 
 pub take_turn-taken-requires : goal.take_turn-taken-requires
 take_turn-taken-requires g c =
@@ -32,8 +32,8 @@ pub give_back-requires-clause-placed : goal.give_back-requires-clause-placed
 give_back-requires-clause-placed g c =
     let placed : IsDeviceIn c.args.self.now.program c.args.number c.in-Some.device = c.in-Some.ensures.placed in
     record {
-      program = c.take_turn-taken.ensures.program ∙ placed.program ∙ sym (ap (λ (u : WorldState). u.program) c.lend.ensures.rest);
-      number_is = c.take_turn-taken.ensures.number ∙ placed.number_is;
+      program = c.take_turn-taken.ensures.leaves.program ∙ placed.program ∙ sym (ap (λ (u : WorldState). u.program) c.lend.ensures.rest);
+      number_is = c.take_turn-taken.ensures.leaves.number ∙ placed.number_is;
     }
 
 pub returns : goal.returns
@@ -44,14 +44,14 @@ returns g c =
     let x' = c.take_turn-taken.new.device in
     let placed : IsDeviceIn v.program n x = c.in-Some.ensures.placed in
     let below = subst (λ k. n < k) (sym c.lend.ensures.count) c.requires.0 in
-    commit_does (λ p w. Unit {0}) (λ (d : Done). Entered d.number) (current (with_entry x.memory (logged x.memory (entry.Turn c.args.turn.turn)))) g.O.Outside.tells v c.give_back.new.self x x' (λ k. command.Turn k c.args.turn) c.entered.result (g.O.Outside.seen c.args.out.now) (g.O.Outside.seen c.take_turn-taken.new.out) c.take_turn-taken.result n placed.number_is
+    commit_does (λ p w. Unit {0}) (λ (d : Done). Entered d.number) (x.memory.unsettled ++ logged x.memory (entry.Turn c.args.turn.turn) ∷ []) (current (with_entry x.memory (logged x.memory (entry.Turn c.args.turn.turn)))) g.O.Outside.tells v c.give_back.new.self x x' (λ k. command.Turn k c.args.turn) c.entered.result (g.O.Outside.seen c.args.out.now) (g.O.Outside.seen c.take_turn-taken.new.out) c.take_turn-taken.result n placed.number_is
     (record {
       of = c.requires;
       below = c.requires.0;
       device_is = refl;
       commit = λ p w. turn_commit p w n c.args.turn;
       place = sym c.lend.ensures.device ∙ c.in-Some.is;
-      number = c.take_turn-taken.ensures.number ∙ placed.number_is;
+      number = c.take_turn-taken.ensures.leaves.number ∙ placed.number_is;
       new_place = back_place v c.lend.new.self c.give_back.new.self n x' c.lend.ensures.rest c.give_back.ensures below;
       other_places = back_others v c.lend.new.self c.give_back.new.self n x' c.lend.ensures.rest c.give_back.ensures;
       program = back_program v c.lend.new.self c.give_back.new.self n x' c.lend.ensures.rest c.give_back.ensures;
@@ -65,5 +65,10 @@ returns g c =
       holds = λ p w is. tt;
       reads = λ told f. g.met.O.Outside.reads_left c.take_turn-taken.new.out n f (g.met.O.Outside.tells_always c.take_turn-taken.new.out ∙ told);
       enters = λ y. refl;
-      counts = λ y none. none;
+      calm = λ y. (refl, refl);
+      leaves = c.take_turn-taken.ensures.leaves;
+      same = back_all v c.lend.new.self c.give_back.new.self n x' c.lend.ensures.rest c.give_back.ensures x (sym c.lend.ensures.device ∙ c.in-Some.is);
+      writes = refl;
+      files = λ made. made;
+      fails = λ at gate_open stops. (n, refl, stops);
     })
