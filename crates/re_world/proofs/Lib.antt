@@ -5,6 +5,7 @@ pub mod CommitSteps
 pub mod Committed
 pub mod Delivered
 pub mod Doing
+pub mod FilesMade
 pub mod Held
 pub mod InsideDone
 pub mod Kept
@@ -17,6 +18,7 @@ pub mod Restarting
 pub mod Restored
 pub mod Sent
 pub mod Started
+pub mod Staying
 pub mod Stepped
 pub mod Told
 pub mod Unmoved

@@ -1,4 +1,6 @@
 pub mod Calls
+pub mod Causes
+pub mod FileSteps
 pub mod Images
 pub mod Opening
 pub mod Standing

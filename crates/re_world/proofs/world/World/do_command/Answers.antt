@@ -1,10 +1,12 @@
 -- Each command does all that a command does.
-use Rattle.std.proofs.Common.{◌≡◌, ◌∙◌, ℕ, sym, subst}
+use Rattle.std.proofs.Common.{◌≡◌, ◌∙◌, ℕ, None, sym, subst}
 use Rattle.re_outside.specs.Outside.{content_in}
 use Rattle.re_record.specs.Stores as stores
 use Rattle.re_record.specs.Stores.{HasStore}
 use Rattle.re_terms.specs.declared.command.Command.TheVariants as command
-use Rattle.re_world.specs.Stepping.{DoesCommand}
+use Rattle.re_terms.specs.Worlds.{plain_answer}
+use Rattle.re_world.specs.State.{device_in}
+use Rattle.re_world.specs.Stepping.{DoesCommand, IsRestartAnswer}
 use Rattle.re_world.proofs.world.World.do_command.Goals as goal
 
 pub returns-in-Lazy-clause-does : goal.returns-in-Lazy-clause-does
@@ -34,6 +36,13 @@ returns-in-Crash-clause-does g c =
 
 same_device : (d e : ℕ) → command.Restart d ≡ command.Restart e → d ≡ e
 same_device d e same = cc
+
+pub returns-clause-decided : goal.returns-clause-decided
+returns-clause-decided g c = λ d stored told is down has.
+    let s = g.O.Outside.seen c.args.out.now in
+    let p = c.args.self.now.program in
+    let same = same_device c.in-Restart.device d (sym c.in-Restart.is ∙ is) in
+    subst (λ k. IsRestartAnswer p k stored (plain_answer c.restart.result)) same (c.restart.ensures.decided stored told (subst (λ k. device_in c.args.self.now k ≡ None) (sym same) down) (subst (λ k. HasStore p k (content_in s k 0) (content_in s k 1) stored) (sym same) has))
 
 pub returns-clause-bad : goal.returns-clause-bad
 returns-clause-bad g c = λ d file at told is answers.

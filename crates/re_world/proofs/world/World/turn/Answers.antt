@@ -1,5 +1,5 @@
 -- A turn is a step of the world.
-use Rattle.std.proofs.Common.{◌∙◌, ◌<◌, refl, sym, ap, subst}
+use Rattle.std.proofs.Common.{◌∙◌, ◌<◌, ◌++◌, ◌∷◌, [], refl, sym, ap, subst}
 use Rattle.re_device.specs.Device.{current, logged, with_entry}
 use Rattle.re_device.specs.declared.fault.Done.{Done}
 use Rattle.re_terms.specs.Admission.{IsAdmitted}
