@@ -1,5 +1,6 @@
 //! A device of a program, with its store.
 ghost use Rattle.std.specs.Prelude.{◌≡◌, ◌≢◌, ◌+◌, ◌<◌, ◌≤◌, ◌^◌, ◌↔◌, ◌++◌, ◌∷◌, [], ℕ, List, length, nat_le, IfOk, OnOk, true, false, None, Some, Err};
+ghost use Rattle.re_journal.specs.Journals.{calls_after};
 ghost use Rattle.re_outside.specs.Frame.{IsGeneration};
 ghost use Rattle.re_outside.specs.Moment.{Throughout};
 ghost use Rattle.re_print.specs.Canonical.{program_text};
@@ -12,7 +13,7 @@ ghost use Rattle.re_terms.specs.Shapes.{FitsShape, shape_of};
 ghost use Rattle.re_terms.specs.Views.{view_of};
 ghost use Rattle.re_terms.specs.WordKinds.{IsStateOf};
 ghost use Rattle.re_terms.specs.declared.command.Command.TheVariants as command;
-ghost use Rattle.re_device.specs.Committing.{HasDiskCause, HasSettlingSteps, record_reads_open};
+ghost use Rattle.re_device.specs.Committing.{HasDiskCause, HasSettlingSteps, record_reads_open, settling_calls};
 ghost use Rattle.re_device.specs.Device.{all_settled, current, limit_against, logged, opened_at, takes_no_more, with_entry};
 ghost use Rattle.re_device.specs.Refusals.{fault_of_limit};
 ghost use Rattle.re_device.specs.Taking.{IsSettlingFault};
@@ -160,6 +161,9 @@ impl Device {
         // The calls of the disk, in order, up to the first that failed.
         ensures steps { D.tells → HasSettlingSteps self.old (self.old.memory.unsettled ++ logged self.old.memory (Entry.Turn turn.turn) ∷ []) self.new.journal.stopped (D.past disk.old) (D.past disk.new) result }
 
+        // How many calls the device has made since it was opened, by which a failed one is numbered.
+        ensures calls { OnOk result (self.new.journal.calls ≡ calls_after (settling_calls self.old) self.old.journal.calls) }
+
         // A stop at any moment leaves all that was settled, with the entries of the record whole or with none of them.
         ensures each_moment { D.tells → StandsSettled self.old (D.past disk.old) → Throughout (D.past disk.old) (D.past disk.new) (LeavesEither self.old.memory (current (with_entry self.old.memory (logged self.old.memory (Entry.Turn turn.turn)))) (D.past disk.old)) }
 
@@ -212,6 +216,9 @@ impl Device {
 
         // The calls of the disk, in order, up to the first that failed.
         ensures steps { D.tells → HasSettlingSteps self.old (self.old.memory.unsettled ++ logged self.old.memory (Entry.Merge state) ∷ []) self.new.journal.stopped (D.past disk.old) (D.past disk.new) result }
+
+        // How many calls the device has made since it was opened, by which a failed one is numbered.
+        ensures calls { OnOk result (self.new.journal.calls ≡ calls_after (settling_calls self.old) self.old.journal.calls) }
 
         // A stop at any moment leaves all that was settled, with the entries of the record whole or with none of them.
         ensures each_moment { D.tells → StandsSettled self.old (D.past disk.old) → Throughout (D.past disk.old) (D.past disk.new) (LeavesEither self.old.memory (current (with_entry self.old.memory (logged self.old.memory (Entry.Merge state)))) (D.past disk.old)) }
@@ -293,6 +300,9 @@ impl Device {
 
         // The calls of the disk, in order, up to the first that failed; where nothing is unsettled `none` says that no call is made.
         ensures steps { D.tells → self.old.memory.unsettled ≢ [] → HasSettlingSteps self.old self.old.memory.unsettled self.new.journal.stopped (D.past disk.old) (D.past disk.new) result }
+
+        // How many calls the device has made since it was opened, by which a failed one is numbered.
+        ensures calls { self.old.memory.unsettled ≢ [] → OnOk result (self.new.journal.calls ≡ calls_after (settling_calls self.old) self.old.journal.calls) }
 
         // A stop at any moment leaves all that was settled, with the unsettled entries whole or with none of them.
         ensures each_moment { D.tells → StandsSettled self.old (D.past disk.old) → Throughout (D.past disk.old) (D.past disk.new) (LeavesEither self.old.memory (current self.old.memory) (D.past disk.old)) }
