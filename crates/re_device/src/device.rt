@@ -13,6 +13,7 @@ ghost use Rattle.re_terms.specs.Shapes.{FitsShape, shape_of};
 ghost use Rattle.re_terms.specs.Views.{view_of};
 ghost use Rattle.re_terms.specs.WordKinds.{IsStateOf};
 ghost use Rattle.re_terms.specs.declared.command.Command.TheVariants as command;
+ghost use Rattle.re_device.specs.Causes.{IsCausedBy, entry_refusal, stop_refusal, unsettled_refusal};
 ghost use Rattle.re_device.specs.Committing.{HasDiskCause, HasSettlingSteps, record_reads_open, settling_calls};
 ghost use Rattle.re_device.specs.Device.{all_settled, current, limit_against, logged, opened_at, takes_no_more, with_entry};
 ghost use Rattle.re_device.specs.Refusals.{fault_of_limit};
@@ -146,6 +147,7 @@ impl Device {
         ensures world { StepsTo self.old self.new (command.Turn self.old.memory.device turn) (fared_as self.new.journal.stopped (record_reads_open self.old (D.past disk.old) (D.past disk.new)) result) (entered_as result) }
 
         // When each refusal comes, and that nothing has changed then.
+        ensures caused { IsCausedBy (entry_refusal self.old (Entry.Turn turn.turn)) (entered_as result) }
         ensures running { OnOk result (self.old.journal.stopped ≡ None) }
         ensures stopped { (at : ℕ) → (result ≡ Err (DeviceFault.Stopped at)) ↔ (self.old.journal.stopped ≡ Some at) }
         ensures full { (result ≡ Err DeviceFault.Full) ↔ ((self.old.journal.stopped ≡ None) × (takes_no_more self.old.memory ≡ true)) }
@@ -202,6 +204,7 @@ impl Device {
         ensures world { (k : ℕ) → StepsWhere (IsPacketOf self.old k state) self.old self.new (command.Deliver k self.old.memory.device) (fared_as self.new.journal.stopped (record_reads_open self.old (D.past disk.old) (D.past disk.new)) result) (entered_as result) }
 
         // When each refusal comes, and that nothing has changed then.
+        ensures caused { IsCausedBy (entry_refusal self.old (Entry.Merge state)) (entered_as result) }
         ensures running { OnOk result (self.old.journal.stopped ≡ None) }
         ensures stopped { (at : ℕ) → (result ≡ Err (DeviceFault.Stopped at)) ↔ (self.old.journal.stopped ≡ Some at) }
         ensures full { (result ≡ Err DeviceFault.Full) ↔ ((self.old.journal.stopped ≡ None) × (takes_no_more self.old.memory ≡ true)) }
@@ -256,6 +259,7 @@ impl Device {
         ensures world { StepsTo self.old self.new (command.Lazy self.old.memory.device turn) (fared_as self.new.journal.stopped false result) (applied_as result) }
 
         // When each refusal comes, and that nothing has changed then.
+        ensures caused { IsCausedBy (unsettled_refusal self.old (Entry.Turn turn.turn)) (applied_as result) }
         ensures running { OnOk result (self.old.journal.stopped ≡ None) }
         ensures stopped { (at : ℕ) → (result ≡ Err (DeviceFault.Stopped at)) ↔ (self.old.journal.stopped ≡ Some at) }
         ensures full { (result ≡ Err DeviceFault.Full) ↔ ((self.old.journal.stopped ≡ None) × (takes_no_more self.old.memory ≡ true)) }
@@ -289,6 +293,7 @@ impl Device {
         ensures world { StepsTo self.old self.new (command.Settle self.old.memory.device) (fared_as self.new.journal.stopped (record_reads_open self.old (D.past disk.old) (D.past disk.new)) result) (settled_as result) }
 
         // When each refusal comes, and that nothing has changed then.
+        ensures caused { IsCausedBy (stop_refusal self.old) (settled_as result) }
         ensures running { OnOk result (self.old.journal.stopped ≡ None) }
         ensures stopped { (at : ℕ) → (result ≡ Err (DeviceFault.Stopped at)) ↔ (self.old.journal.stopped ≡ Some at) }
         ensures only { (f : DeviceFault) → result ≡ Err f → IsSettlingFault f }

@@ -11,6 +11,8 @@ use Rattle.re_terms.specs.declared.command.Answer.TheVariants as answer
 use Rattle.re_terms.specs.declared.command.Command.TheVariants as command
 use Rattle.re_terms.specs.declared.entry.Entry.TheVariants as entry
 use Rattle.re_terms.specs.declared.program.Program.{Program}
+use Rattle.re_device.specs.Causes.{IsCausedBy}
+use Rattle.re_world.proofs.Caused.{device_is, found_up}
 use Rattle.re_world.proofs.CommitKinds.{deliver_commit}
 use Rattle.re_world.proofs.Doing.{commit_does}
 use Rattle.re_world.proofs.Delivered.{all_at, kept_at, none_there, one_there, packet_of, packet_short, packet_state}
@@ -121,6 +123,7 @@ returns g c =
       enters = λ y. refl;
       calm = λ y. (refl, refl);
       leaves = c.take_merge-taken.ensures.leaves;
+      caused = ?;
       same = back_all v c.lend.new.self c.give_back.new.self n x' c.lend.ensures.rest c.give_back.ensures x (sym c.lend.ensures.device ∙ c.in-Some-lend.is);
       writes =
           let program : c.self.inside.program ≡ v.program = ap (λ (u : WorldState). u.program) c.self.view_is in
