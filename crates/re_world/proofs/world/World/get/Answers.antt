@@ -1,5 +1,5 @@
 -- A word or a set of a device is shown.
-use Rattle.std.proofs.Common.{◌∙◌, refl, sym, ap}
+use Rattle.std.proofs.Common.{◌∙◌, None, false, refl, sym, ap}
 use Rattle.std.specs.Option.{option_copied}
 use Rattle.re_terms.specs.declared.command.Command.TheVariants as command
 use Rattle.re_device.specs.Causes.{refusal_by}

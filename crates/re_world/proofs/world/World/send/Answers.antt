@@ -1,12 +1,15 @@
 -- A packet is made of what a device has settled.
-use Rattle.std.proofs.Common.{◌∙◌, ℕ, refl, sym, ap, subst, arith}
+use Rattle.std.proofs.Common.{◌∙◌, None, false, ℕ, refl, sym, ap, subst, arith}
 use Rattle.std.specs.Option.{option_copied}
 use Rattle.re_outside.specs.Listed.{Listed as Bytes}
 use Rattle.re_terms.specs.Listed.{Listed}
 use Rattle.re_terms.specs.declared.command.Answer.TheVariants as answer
 use Rattle.re_terms.specs.declared.command.Command.TheVariants as command
 use Rattle.re_device.specs.Causes.{refusal_by}
+use Rattle.re_terms.specs.DeviceWorlds.{refused_where}
 use Rattle.re_terms.specs.Worlds.{StoppedAt}
+use Rattle.std.specs.Option.{option_or}
+use Rattle.std.specs.Prelude.{length, nat_le}
 use Rattle.re_world.proofs.Caused.{caused_as, device_is, found_down, found_up}
 use Rattle.re_world.proofs.Inside.{down_does, memory_does, stopped_does}
 use Rattle.re_world.proofs.Lent.{no_some}

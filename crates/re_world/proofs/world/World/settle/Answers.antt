@@ -5,10 +5,10 @@ use Rattle.re_terms.specs.Worlds.{Settled}
 use Rattle.re_terms.specs.declared.command.Answer.TheVariants as answer
 use Rattle.re_terms.specs.declared.command.Command.TheVariants as command
 use Rattle.re_device.specs.Causes.{IsCausedBy}
-use Rattle.re_world.proofs.Caused.{device_is, found_up}
+use Rattle.re_device.specs.Stepping.{settled_as}
+use Rattle.re_world.proofs.Caused.{device_is, found_down, found_up}
 use Rattle.re_world.proofs.CommitKinds.{settle_commit}
 use Rattle.re_world.proofs.Doing.{commit_does}
-use Rattle.re_world.proofs.Caused.{found_down}
 use Rattle.re_world.proofs.Inside.{down_does}
 use Rattle.re_world.proofs.Lent.{back_all, back_others, back_packets, back_place, back_program, lent_none, no_some}
 use Rattle.re_world.specs.State.{IsDeviceIn, WorldState}
@@ -62,7 +62,7 @@ returns g c =
       enters = λ y. refl;
       calm = λ y. (refl, refl);
       leaves = c.settle_entries-taken.ensures.leaves;
-      caused = λ state merges. subst (λ o. IsCausedBy o _) (sym (device_is v (command.Settle n) refl state x (found_up v n x (sym c.lend.ensures.device ∙ c.in-Some.is)) refl (sym c.lend.ensures.device ∙ c.in-Some.is))) c.settle_entries-taken.ensures.caused;
+      caused = λ state merges. subst (λ o. IsCausedBy o (settled_as c.settle_entries-taken.result)) (sym (device_is v (command.Settle n) refl state x (found_up v n x (sym c.lend.ensures.device ∙ c.in-Some.is)) refl (sym c.lend.ensures.device ∙ c.in-Some.is))) c.settle_entries-taken.ensures.caused;
       same = back_all v c.lend.new.self c.give_back.new.self n x' c.lend.ensures.rest c.give_back.ensures x (sym c.lend.ensures.device ∙ c.in-Some.is);
       writes = refl;
       files = λ made. made;

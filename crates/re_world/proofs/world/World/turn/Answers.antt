@@ -8,10 +8,10 @@ use Rattle.re_terms.specs.declared.command.Answer.TheVariants as answer
 use Rattle.re_terms.specs.declared.command.Command.TheVariants as command
 use Rattle.re_terms.specs.declared.entry.Entry.TheVariants as entry
 use Rattle.re_device.specs.Causes.{IsCausedBy}
-use Rattle.re_world.proofs.Caused.{device_is, found_up}
+use Rattle.re_device.specs.Stepping.{entered_as}
+use Rattle.re_world.proofs.Caused.{device_is, found_down, found_up}
 use Rattle.re_world.proofs.CommitKinds.{turn_commit}
 use Rattle.re_world.proofs.Doing.{commit_does}
-use Rattle.re_world.proofs.Caused.{found_down}
 use Rattle.re_world.proofs.Inside.{down_does}
 use Rattle.re_world.proofs.Lent.{back_all, back_others, back_packets, back_place, back_program, lent_none, no_some}
 use Rattle.re_world.specs.State.{IsDeviceIn, WorldState}
@@ -70,7 +70,7 @@ returns g c =
       enters = λ y. refl;
       calm = λ y. (refl, refl);
       leaves = c.take_turn-taken.ensures.leaves;
-      caused = λ state merges. subst (λ o. IsCausedBy o _) (sym (device_is v (command.Turn n c.args.turn) refl state x (found_up v n x (sym c.lend.ensures.device ∙ c.in-Some.is)) refl (sym c.lend.ensures.device ∙ c.in-Some.is))) c.take_turn-taken.ensures.caused;
+      caused = λ state merges. subst (λ o. IsCausedBy o (entered_as c.take_turn-taken.result)) (sym (device_is v (command.Turn n c.args.turn) refl state x (found_up v n x (sym c.lend.ensures.device ∙ c.in-Some.is)) refl (sym c.lend.ensures.device ∙ c.in-Some.is))) c.take_turn-taken.ensures.caused;
       same = back_all v c.lend.new.self c.give_back.new.self n x' c.lend.ensures.rest c.give_back.ensures x (sym c.lend.ensures.device ∙ c.in-Some.is);
       writes = refl;
       files = λ made. made;
