@@ -1,6 +1,6 @@
 -- The steps by which devices are opened, one behind the other.
 use Rattle.std.proofs.Common.{◌≡◌, ◌⊎◌, inl, inr, ◌+◌, ◌++◌, [], ℕ, suc, List, Result, Ok, Err, length, refl, sym, ap, subst, ◌∙◌, arith}
-use Rattle.std.specs.Prelude.{◌&&◌, if◌then◌else◌}
+use Rattle.std.specs.Prelude.{true, ◌&&◌, if◌then◌else◌}
 use Rattle.std.specs.Result.{IsErrAnd}
 use Rattle.std.proofs.lemmas.List.{append_assoc, append-nil}
 use Rattle.re_compact.specs.Finding.{open_steps}
@@ -34,7 +34,7 @@ next_handed T U p n f old now (inl none) = inl (by_fault f none)
     by_fault Disk h = h
     by_fault (BadStore file at) h = h
     by_fault OtherProgram h = h
-next_handed T U p n f old now (inr made) = inr (steps_handed T {U} p n (Err f) f old now refl made)
+next_handed T U p n f old now (inr made) = inr (steps_handed T {U = U} p n (Err f) f old now refl made)
 
 -- the same of opening all devices
 pub all_handed : (T : Type 0) {U : Type 0} (p : Program) (r : Result U (ℕ × OpenFault)) (e : ℕ × OpenFault) (old now : Past) → IsErrAnd r (λ x. x ≡ e) → HasAllOpeningSteps {T = T} p old now (Err e) → HasAllOpeningSteps {T = U} p old now r
@@ -49,6 +49,11 @@ no_steps old = λ i. record { device = old.device; start = old.start; trace = sy
 -- a device is opened by the same steps where its files read the same
 pub same_steps : (p : Program) (n : ℕ) (old mid : Past) → ((f : ℕ) → content_at mid n f ≡ content_at old n f) → opening_steps p n (as_device n mid) ≡ opening_steps p n (as_device n old)
 same_steps p n old mid same = λ i. open_steps n ++ (if is_blank (same 0 i) && is_blank (same 1 i) then lay_steps n 0 true (length (same 0 i)) (frame_of (start_snapshot p n)) else [])
+
+-- where the next device was opened all its calls were made
+pub made : {T : Type 0} {x : T} (p : Program) (n : ℕ) (old now : Past) → HasNextSteps {T = T} p n old now (Ok x) → now ≡ with_steps old (opening_steps p n old)
+made p n old now (inl none) = absurd none
+made p n old now (inr all) = all
 
 -- one device more is opened behind those before it
 pub steps_more : (p : Program) (n : ℕ) (old mid now : Past) → mid ≡ after_opening p n old → ((f : ℕ) → content_at mid n f ≡ content_at old n f) → as_device n now ≡ with_steps (as_device n mid) (opening_steps p n (as_device n mid)) → now.device ≡ old.device → now ≡ after_opening p (suc n) old
