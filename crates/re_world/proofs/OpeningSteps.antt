@@ -51,15 +51,18 @@ pub same_steps : (p : Program) (n : ℕ) (old mid : Past) → ((f : ℕ) → con
 same_steps p n old mid same = λ i. open_steps n ++ (if is_blank (same 0 i) && is_blank (same 1 i) then lay_steps n 0 true (length (same 0 i)) (frame_of (start_snapshot p n)) else [])
 
 -- where the next device was opened all its calls were made
-pub made : {T : Type 0} {x : T} (p : Program) (n : ℕ) (old now : Past) → HasNextSteps {T = T} p n old now (Ok x) → now ≡ with_steps old (opening_steps p n old)
-made p n old now (inl none) = absurd none
-made p n old now (inr all) = all
+pub made : {A : Type 0} → ⊥ ⊎ A → A
+made (inl none) = absurd none
+made (inr all) = all
 
 -- one device more is opened behind those before it
-pub steps_more : (p : Program) (n : ℕ) (old mid now : Past) → mid ≡ after_opening p n old → ((f : ℕ) → content_at mid n f ≡ content_at old n f) → as_device n now ≡ with_steps (as_device n mid) (opening_steps p n (as_device n mid)) → now.device ≡ old.device → now ≡ after_opening p (suc n) old
+pub steps_more : (p : Program) (n : ℕ) (old mid now : Past) → mid ≡ after_opening p n old → ((f : ℕ) → content_at mid n f ≡ content_at old n f) → as_device n now ≡ with_steps (as_device n mid) (opening_steps p n (as_device n mid)) → now.device ≡ old.device → now ≡ after_opening p (n + 1) old
 steps_more p n old mid now moment same made device =
-    λ i. record { device = device i; start = start_is i; trace = trace_is i }
+    subst (λ k. now ≡ after_opening p k old) next (λ i. record { device = device i; start = start_is i; trace = trace_is i })
   where
+    next : suc n ≡ n + 1
+    next = omega arith
+
     start_is : now.start ≡ old.start
     start_is = ap (λ (q : Past). q.start) made ∙ ap (λ (q : Past). q.start) moment
 

@@ -45,7 +45,7 @@ loop-number-preserved g c = record {
       let count = c.loop-number.invariant.count in
       steps_more c.args.p.now n (past_in 0 start) (past_in 0 mid) (past_in 0 now) (c.loop-number.invariant.moment tells)
       (λ f. (are.others n f (omega (arith, count))).content)
-      (subst (λ (k : ℕ). past_in k now ≡ with_steps (past_in k mid) (opening_steps c.args.p.now k (past_in k mid))) count (made c.args.p.now (length c.loop-number.devices.items) (past_in (length c.loop-number.devices.items) mid) (past_in (length c.loop-number.devices.items) now) (c.in_default.ensures.steps tells)))
+      (subst (λ (k : ℕ). past_in k now ≡ with_steps (past_in k mid) (opening_steps c.args.p.now k (past_in k mid))) count (made (c.in_default.ensures.steps tells)))
       refl;
 }
 
