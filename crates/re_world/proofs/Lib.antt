@@ -14,6 +14,7 @@ pub mod Inside
 pub mod Leading
 pub mod Lent
 pub mod Opened
+pub mod OpeningSteps
 pub mod Restarted
 pub mod Restarting
 pub mod Restored

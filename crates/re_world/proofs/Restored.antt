@@ -20,7 +20,8 @@ plain_words : (s : State) (number : ℕ) → s.words.spare ≡ 0 → ◌≡◌ {
 plain_words s number none = ap (λ (k : ℕ). record { state = record { words = record { items = s.words.items; spare = k }; rep = s.rep }; number = number }) (sym none)
 
 module _ (p : Program) (d : ℕ) (r : Restored) (now : Past) (stands : StandsOpened p d r now) (room : ℕ) where
-  settled_is : (opened_at p d r.state r.number).settled ≡ opened_as r
+  -- what it has settled is what was restored
+  pub settled_is : (opened_at p d r.state r.number).settled ≡ opened_as r
   settled_is = plain_words r.state r.number (unreserved p d stands.snapshot stands.bodies (opened_as r) stands.comes)
 
   -- the device stands there

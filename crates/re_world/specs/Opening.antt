@@ -81,12 +81,12 @@ RanOutBefore old new r = ⊥
 
 -- the calls of opening the next device, none where memory ran out before it
 abbrev pub HasNextSteps : {T : Type 0} → Program → ℕ → Past → Past → Result T OpenFault → Type 0
-HasNextSteps {T = T} p number old new r = RanOutBefore {T = T} old new r ⊎ HasOpeningSteps {T = T} p number old new r
+HasNextSteps p number old new r = RanOutBefore old new r ⊎ HasOpeningSteps p number old new r
 
 -- the calls of opening all devices: those of the ones before the one that is refused whole, and its own as far as they came
 abbrev pub HasAllOpeningSteps : {T : Type 0} → Program → Past → Past → Result T (ℕ × OpenFault) → Type 0
 HasAllOpeningSteps p old new (Ok x) = new ≡ after_opening p (device_count p.decls.items) old
-HasAllOpeningSteps {T = T} p old new (Err (d, fault)) = HasNextSteps {T = T} p d (as_device d (after_opening p d old)) (as_device d new) (Err fault)
+HasAllOpeningSteps {T} p old new (Err (d, fault)) = HasNextSteps {T = T} p d (as_device d (after_opening p d old)) (as_device d new) (Err fault)
 
 -- ---- causes
 

@@ -1,13 +1,15 @@
 -- The devices are opened one behind the other.
-use Rattle.std.proofs.Common.{◌≡◌, ◌∙◌, ◌+◌, ℕ, Err, List, Option, length, refl, sym, ap, subst}
+use Rattle.std.proofs.Common.{◌≡◌, ◌∙◌, ◌+◌, ℕ, Err, List, Option, length, refl, sym, ap, subst, arith}
 use Rattle.re_compact.specs.declared.fault.OpenFault.TheVariants.{BadStore, OtherProgram}
 use Rattle.re_device.specs.Device.{DeviceState}
-use Rattle.re_outside.specs.Port.{disk_faults, other_faults}
+use Rattle.re_outside.specs.Port.{disk_faults, other_faults, past_in}
+use Rattle.re_outside.specs.Trace.{as_device, with_steps}
 use Rattle.re_record.specs.Stores as stores
 use Rattle.re_restore.specs.Opening.{HasRestoreCause}
 use Rattle.re_terms.specs.Listed.{Listed}
 use Rattle.re_world.proofs.Opened.{all_faults, caused, held_before, none_opened, open_before, same_refusal}
-use Rattle.re_world.specs.Opening.{AreOpened}
+use Rattle.re_world.proofs.OpeningSteps.{next_handed, no_steps, made, steps_more}
+use Rattle.re_world.specs.Opening.{AreOpened, HasNextSteps, opening_steps}
 use Rattle.re_world.specs.State.{AllPlaced}
 use Rattle.re_world.proofs.opening.open_all.Goals as goal
 
@@ -21,6 +23,7 @@ loop-number-init g c =
       faults = refl;
       left = λ tells. refl;
       opened = λ tells. subst (λ (l : List (Option DeviceState)). AreOpened c.args.p.now l s s) (sym none) (none_opened c.args.p.now s);
+      moment = λ tells. no_steps (past_in 0 s);
     }
 
 pub returns-in-Err-clause-moments : goal.returns-in-Err-clause-moments
@@ -33,6 +36,17 @@ loop-number-preserved g c = record {
   faults = all_faults (length c.loop-number.devices.items) (g.O.Outside.seen c.loop-number.out) (g.O.Outside.seen c.open_next.new.out) c.in_default.ensures.cause c.open_next.ensures.others ∙ c.loop-number.invariant.faults;
   left = λ tells. c.open_next.ensures.left tells ∙ c.loop-number.invariant.left tells;
   opened = λ tells. c.in_default.ensures.opened (g.O.Outside.seen c.args.out.now) tells (c.loop-number.invariant.opened tells);
+  moment = λ tells.
+      let n = c.loop-number.number in
+      let start = g.O.Outside.seen c.args.out.now in
+      let mid = g.O.Outside.seen c.loop-number.out in
+      let now = g.O.Outside.seen c.open_next.new.out in
+      let are = c.loop-number.invariant.opened tells in
+      let count = c.loop-number.invariant.count in
+      steps_more c.args.p.now n (past_in 0 start) (past_in 0 mid) (past_in 0 now) (c.loop-number.invariant.moment tells)
+      (λ f. (are.others n f (omega (arith, count))).content)
+      (subst (λ (k : ℕ). past_in k now ≡ with_steps (past_in k mid) (opening_steps c.args.p.now k (past_in k mid))) count (made (c.in_default.ensures.steps tells)))
+      refl;
 }
 
 pub returns-in-Err-clause-bad : goal.returns-in-Err-clause-bad
@@ -62,3 +76,11 @@ returns-in-Err-clause-first g c d fault tells refused =
 
 pub returns-in-Err-clause-left : goal.returns-in-Err-clause-left
 returns-in-Err-clause-left g c tells = c.open_next.ensures.left tells ∙ c.loop-number.invariant.left tells
+
+pub returns-in-Err-clause-steps : goal.returns-in-Err-clause-steps
+returns-in-Err-clause-steps g c = λ tells.
+    let p = c.args.p.now in
+    let mid = g.O.Outside.seen c.loop-number.out in
+    let now = g.O.Outside.seen c.open_next.new.out in
+    subst (λ q. HasNextSteps {T = Unit {0}} p c.loop-number.number (as_device c.loop-number.number q) (past_in c.loop-number.number now) (Err c.in-Err.fault)) (c.loop-number.invariant.moment tells)
+    (subst (λ (k : ℕ). HasNextSteps {T = Unit {0}} p k (past_in k mid) (past_in k now) (Err c.in-Err.fault)) c.loop-number.invariant.count (c.in-Err.ensures.steps tells))

@@ -1,5 +1,5 @@
 -- One device more is opened.
-use Rattle.std.proofs.Common.{◌≡◌, ℕ, List, Option, Some, Err, refl, sym, ap, subst}
+use Rattle.std.proofs.Common.{◌≡◌, inl, inr, ℕ, List, Option, Some, Ok, Err, refl, sym, ap, subst}
 use Rattle.re_compact.specs.declared.fault.OpenFault.TheVariants.{BadStore, OtherProgram}
 use Rattle.re_device.specs.Device.{DeviceState}
 use Rattle.re_outside.specs.Outside.{content_in}
@@ -9,7 +9,8 @@ use Rattle.re_record.specs.Stores.{HasStore}
 use Rattle.re_restore.specs.Opening.{HasRestoreCause}
 use Rattle.re_terms.specs.Listed.{Listed}
 use Rattle.re_world.proofs.Opened.{cause_handed, handed_on, moments_by, opened_by, placed_more, pushed_items}
-use Rattle.re_world.specs.Opening.{AreOpened, IsOpened}
+use Rattle.re_world.proofs.OpeningSteps.{steps_handed}
+use Rattle.re_world.specs.Opening.{AreOpened, HasNextSteps, HasOpeningSteps, IsOpened}
 use Rattle.re_world.specs.State.{AllPlaced}
 use Rattle.re_world.proofs.opening.open_next.Goals as goal
 
@@ -78,3 +79,19 @@ returns-clause-others g c =
     let old = g.O.Outside.seen c.args.out.now in
     let now = g.O.Outside.seen c.open_outside.new.out in
     subst (λ (k : ℕ). other_faults k now ≡ other_faults k old) c.len-number.ensures c.open_outside.ensures.others
+
+pub returns-in_err-device-clause-steps : goal.returns-in_err-device-clause-steps
+returns-in_err-device-clause-steps g c tells =
+    let old = g.O.Outside.seen c.args.out.now in
+    let now = g.O.Outside.seen c.open_outside.new.out in
+    subst (λ (k : ℕ). HasNextSteps c.args.p.now k (past_in k old) (past_in k now) c.from_residual.result) c.len-number.ensures
+    (inr (steps_handed DeviceState c.args.p.now c.len-number.result c.from_residual.result c.in_err-device.field-0.0 (past_in c.len-number.result old) (past_in c.len-number.result now) c.from_residual.ensures.1 (c.in_err-device.ensures.steps tells)))
+
+pub returns-in_default-clause-steps : goal.returns-in_default-clause-steps
+returns-in_default-clause-steps g c tells = inl refl
+
+pub returns-clause-steps : goal.returns-clause-steps
+returns-clause-steps g c tells =
+    let old = g.O.Outside.seen c.args.out.now in
+    let now = g.O.Outside.seen c.open_outside.new.out in
+    inr (subst (λ (k : ℕ). HasOpeningSteps c.args.p.now k (past_in k old) (past_in k now) (Ok c.in_ok-device.device)) c.len-number.ensures (c.in_ok-device.ensures.steps tells))

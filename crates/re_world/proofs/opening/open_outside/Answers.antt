@@ -1,5 +1,5 @@
 -- What is opened over a port is opened over the outside behind it.
-use Rattle.std.proofs.Common.{◌≡◌, ◌∙◌, ℕ, List, ap, subst, rules}
+use Rattle.std.proofs.Common.{◌≡◌, ◌∙◌, ℕ, List, sym, ap, subst, rules}
 use Rattle.std.specs.Prelude.{IfOk}
 use Rattle.re_device.specs.Device.{DeviceState}
 use Rattle.re_device.specs.Standing.{StandsSettled}
@@ -11,6 +11,7 @@ use Rattle.re_record.specs.Stores as stores
 use Rattle.re_record.specs.Stores.{HasStore, OpensTo}
 use Rattle.re_restore.specs.Opening.{HasRestoreCause, StillOpens}
 use Rattle.re_world.proofs.Opened.{left_kept, on_outside, on_port}
+use Rattle.re_world.specs.Opening.{HasOpeningSteps}
 use Rattle.re_world.proofs.opening.open_outside.Goals as goal
 
 pub returns-clause-settled : goal.returns-clause-settled
@@ -45,6 +46,17 @@ pub returns-clause-other : goal.returns-clause-other
 returns-clause-other g c tells refused =
     subst (λ (u : Past). HasStore c.args.p.now c.args.number (content_of u 0) (content_of u 1) stores.OtherProgram)
     (λ i. past_in (c.new-port.ensures.device i) (g.O.Outside.seen (c.new-port.ensures.out i))) (c.open_device.ensures.other tells refused)
+
+pub returns-clause-decided : goal.returns-clause-decided
+returns-clause-decided g c stored tells has =
+    c.open_device.ensures.decided stored tells (subst (λ (u : Past). HasStore c.args.p.now c.args.number (content_of u 0) (content_of u 1) stored)
+    (λ i. past_in (sym c.new-port.ensures.device i) (g.O.Outside.seen (sym c.new-port.ensures.out i))) has)
+
+pub returns-clause-steps : goal.returns-clause-steps
+returns-clause-steps g c tells =
+    let same_name : c.open_device.new.disk.out.ghost_name ≡ c.new-port.result.out.ghost_name = ap (λ (r : Rest). r.name) c.open_device.ensures.rest in
+    on_port g.O.Outside.seen c.args.number c.new-port.result.device c.open_device.new.disk.device c.args.out.now c.new-port.result.out.now c.open_device.new.disk.out.now _
+    (λ u v. HasOpeningSteps c.args.p.now c.args.number u v c.open_device.result) c.new-port.ensures.device c.new-port.ensures.out c.open_device.ensures.device (search rules) (c.open_device.ensures.steps tells)
 
 pub returns-clause-cause : goal.returns-clause-cause
 returns-clause-cause g c =
