@@ -2,8 +2,8 @@
 use Rattle.std.proofs.Common.{◌≡◌, ◌≢◌, inl, inr, ◌∙◌, ◌+◌, [], ℕ, Bool, true, false, Option, None, Some, List, Result, Ok, Err, refl, sym, ap, subst}
 use Rattle.std.specs.Prelude.{IfOk, IsErrAnd, OnOk}
 use Rattle.re_device.proofs.Results.{at_ok}
-use Rattle.re_device.proofs.WorldRefusals.{refusal_by}
-use Rattle.re_device.proofs.WorldSteps.{EntryFares, Fares, IsDone, entry_refusal}
+use Rattle.re_device.proofs.WorldSteps.{EntryFares, Fares, IsDone}
+use Rattle.re_device.specs.Causes.{entry_refusal, refusal_by}
 use Rattle.re_device.specs.Device.{DeviceMemory, DeviceState, all_settled, current, limit_against, logged, takes_no_more, with_entry}
 use Rattle.re_device.specs.Refusals.{fault_of_journal, fault_of_limit}
 use Rattle.re_device.specs.Taking.{IsCommitFault, IsTakingFault}

@@ -6,7 +6,7 @@ use Rattle.re_compact.proofs.Committing.{may_open}
 use Rattle.re_compact.proofs.ReadStores.{few_shut}
 use Rattle.re_compact.proofs.Standing.{at_rest}
 use Rattle.re_outside.proofs.Moments.{no_step}
-use Rattle.re_compact.specs.Committing.{IsLeftBy, IsReadBy, MayCommit, ReadAs, reads_open, store_after}
+use Rattle.re_compact.specs.Committing.{IsLeftBy, IsReadBy, MayCommit, ReadAs, committing_calls, reads_open, store_after}
 use Rattle.re_compact.specs.Pair.{Holds, StandsIn}
 use Rattle.re_journal.specs.Journals.{frame_of, other_file}
 use Rattle.re_journal.specs.declared.journal.Journal.{Journal}
@@ -26,7 +26,7 @@ use Rattle.re_terms.specs.declared.program.Program.{Program}
 use Rattle.re_device.proofs.DueSnapshots.{due_below, due_none, due_some, snapshot_comes, succeeds}
 use Rattle.re_device.proofs.Memories.{current_more, number_after}
 use Rattle.re_device.proofs.Records.{accepted_same, after_all_same, record_bytes_same, settles_long, settles_of, unreserved}
-use Rattle.re_device.specs.Committing.{due_snapshot, framed_record, is_due, next_generation, next_snapshot, record_reads_open}
+use Rattle.re_device.specs.Committing.{due_snapshot, framed_record, is_due, next_generation, next_snapshot, record_reads_open, settling_calls}
 use Rattle.re_device.specs.Device.{DeviceMemory, DeviceState, all_settled, current, with_entry}
 use Rattle.re_device.specs.Keeping.{IsKept, memory_of, seen_of, settled_of}
 use Rattle.re_device.specs.Ready.{IsReady, MaySettle}
@@ -205,6 +205,13 @@ behind_due d x old now due = ap (λ (o : Option (List ℕ)). reads_open d.journa
 
 pub behind_none : (d : DeviceState) (old now : Past) → is_due d ≡ false → reads_open d.journal None old now ≡ record_reads_open d old now
 behind_none d old now due = ap (λ (o : Option (List ℕ)). reads_open d.journal o old now) (sym (ap (option_map frame_of) (due_none d due)))
+
+-- how many calls are made, by the frame that was handed in
+pub calls_due : (d : DeviceState) (x : List ℕ) → (is_due d ≡ true) × (x ≡ frame_of (next_snapshot d)) → committing_calls d.journal (Some x) ≡ settling_calls d
+calls_due d x due = ap (committing_calls d.journal) (ap Some due.1 ∙ sym (ap (option_map frame_of) (due_some d due.0)))
+
+pub calls_none : (d : DeviceState) → is_due d ≡ false → committing_calls d.journal None ≡ settling_calls d
+calls_none d due = ap (committing_calls d.journal) (sym (ap (option_map frame_of) (due_none d due)))
 
 pub next_due : (d : DeviceState) → is_due d ≡ true → next_generation d ≡ d.generation + 1
 next_due d due = ap (λ (b : Bool). if b then d.generation + 1 else d.generation) due

@@ -5,25 +5,18 @@ use Rattle.std.specs.Option.{option_or}
 use Rattle.std.proofs.lemmas.Bool.{lt-leb}
 use Rattle.std.proofs.lemmas.Option.{slice_get_within}
 use Rattle.re_device.proofs.PlainEntries.{full_is, merge_limit, turn_limit}
+use Rattle.re_device.specs.Causes.{refusal_by}
 use Rattle.re_device.specs.Device.{DeviceState, limit_against, takes_no_more}
 use Rattle.re_device.specs.Stepping.{IsDeviceOf, IsPacketOf}
 use Rattle.re_terms.specs.Admission.{IsAdmitted}
 use Rattle.re_terms.specs.DeviceWorlds.{World, refusal, refused_where}
 use Rattle.re_terms.specs.Limits.{OperationFault}
-use Rattle.re_terms.specs.Worlds.{PlainAnswer, Refused, StoppedAt, limit_code}
+use Rattle.re_terms.specs.Worlds.{PlainAnswer}
 use Rattle.re_terms.specs.declared.command.Command.TheVariants as command
 use Rattle.re_terms.specs.declared.entry.Admitted.{Admitted}
 use Rattle.re_terms.specs.declared.entry.Entry.TheVariants as entry
 use Rattle.re_terms.specs.declared.program.Program.{Program}
 use Rattle.re_terms.specs.declared.replicated.RState.{RState}
-
--- why a device that is up refuses: where it is stopped, where it takes no more, where as many entries are unsettled as may be, and the limit that stands against the entry
-abbrev pub refusal_by : Option ℕ → Bool → Bool → Option OperationFault → Option PlainAnswer
-refusal_by stop full many limit =
-    option_or (option_map StoppedAt stop)
-    (option_or (refused_where full 29)
-    (option_or (refused_where many 38)
-    (option_map (λ f. Refused (limit_code f)) limit)))
 
 -- the same, where the packet may not be there and the device may be down
 abbrev refusal_of : Bool → Bool → Option ℕ → Bool → Bool → Option OperationFault → Option PlainAnswer

@@ -1,11 +1,12 @@
 -- The calls of a device as steps of each world that it stands for.
-use Rattle.std.proofs.Common.{◌≡◌, ◌≢◌, ◌+◌, ◌++◌, ◌∷◌, [], ℕ, Bool, true, false, List, length, Option, None, Some, Result, Ok, Err, refl, sym, ap, subst, ◌∙◌, arith}
-use Rattle.std.specs.Prelude.{if◌then◌else◌, nat_le, option_map, slice_get, unwrap_or}
+use Rattle.std.proofs.Common.{◌≡◌, ◌≢◌, inl, inr, ◌+◌, ◌++◌, ◌∷◌, [], ℕ, Bool, true, false, List, length, Option, None, Some, Result, Ok, Err, refl, sym, ap, subst, ◌∙◌, arith}
+use Rattle.std.specs.Prelude.{if◌then◌else◌, option_map, slice_get, unwrap_or}
 use Rattle.std.specs.Option.{option_map_or}
 use Rattle.re_device.proofs.PlainEntries.{merge_plain, turn_plain}
 use Rattle.re_device.proofs.WorldDevices.{device_applied, device_entered, device_settled, device_stopped}
-use Rattle.re_device.proofs.WorldRefusals.{lazy_refusal, merge_refusal, refusal_by, settle_refusal, turn_refusal}
-use Rattle.re_device.specs.Device.{DeviceState, all_settled, current, limit_against, logged, takes_no_more, with_entry}
+use Rattle.re_device.proofs.WorldRefusals.{lazy_refusal, merge_refusal, settle_refusal, turn_refusal}
+use Rattle.re_device.specs.Causes.{IsCausedBy, entry_refusal, is_caused, stop_refusal, unsettled_refusal}
+use Rattle.re_device.specs.Device.{DeviceState, all_settled, current, logged, with_entry}
 use Rattle.re_device.specs.Stepping.{IsDeviceOf, IsPacketOf, StepsTo, StepsWhere, answered_as, applied_as, entered_as, fared_as, refused_as, settled_as}
 use Rattle.re_device.specs.declared.fault.DeviceFault.{DeviceFault}
 use Rattle.re_device.specs.declared.fault.DeviceFault.TheVariants as fault
@@ -37,6 +38,19 @@ Fares why Calls Done old new (Err fault.LooseFull) = (why ≡ Some (refused_as f
 Fares why Calls Done old new (Err fault.SetFull) = (why ≡ Some (refused_as fault.SetFull)) × (new ≡ old)
 Fares why Calls Done old new (Err fault.CounterFull) = (why ≡ Some (refused_as fault.CounterFull)) × (new ≡ old)
 Fares why Calls Done old new (Err fault.DotsSpent) = (why ≡ Some (refused_as fault.DotsSpent)) × (new ≡ old)
+
+-- the answer's cause, from how the call fared
+caused_by : {T : Type 0} (why : Option PlainAnswer) (Calls : Type 0) (Done : T → Type 0) (old new : DeviceState) (answer : T → PlainAnswer) → ((x : T) → is_caused (answer x) ≡ false) → (result : Result T DeviceFault) → Fares why Calls Done old new result → IsCausedBy why (answered_as answer result)
+caused_by why Calls Done old new answer plain (Ok x) fares = subst (λ y. IsCausedBy y (answer x)) (sym fares.0) (plain x)
+caused_by None Calls Done old new answer plain (Err fault.Memory) fares = refl
+caused_by (Some r) Calls Done old new answer plain (Err fault.Memory) fares = inr refl
+caused_by why Calls Done old new answer plain (Err fault.Disk) fares = subst (λ y. IsCausedBy y (Refused 33)) (sym fares.0) refl
+caused_by why Calls Done old new answer plain (Err (fault.Stopped at)) fares = subst (λ y. IsCausedBy y (refused_as (fault.Stopped at))) (sym fares.0) (inl refl)
+caused_by why Calls Done old new answer plain (Err fault.Full) fares = subst (λ y. IsCausedBy y (refused_as fault.Full)) (sym fares.0) (inl refl)
+caused_by why Calls Done old new answer plain (Err fault.LooseFull) fares = subst (λ y. IsCausedBy y (refused_as fault.LooseFull)) (sym fares.0) (inl refl)
+caused_by why Calls Done old new answer plain (Err fault.SetFull) fares = subst (λ y. IsCausedBy y (refused_as fault.SetFull)) (sym fares.0) (inl refl)
+caused_by why Calls Done old new answer plain (Err fault.CounterFull) fares = subst (λ y. IsCausedBy y (refused_as fault.CounterFull)) (sym fares.0) (inl refl)
+caused_by why Calls Done old new answer plain (Err fault.DotsSpent) fares = subst (λ y. IsCausedBy y (refused_as fault.DotsSpent)) (sym fares.0) (inl refl)
 
 no_change : (w : World) (r : Option PlainAnswer) → option_map_or (λ refused. w) r w ≡ w
 no_change w None = refl
@@ -94,10 +108,6 @@ module _ (p : Program) (w : World) (old new : DeviceState) (is : IsDeviceOf p w 
 abbrev pub IsDone : DeviceState → DeviceState → Entry → Done → Type 0
 IsDone old new e done = (done.number ≡ (current old.memory).number + 1) × (new.memory ≡ all_settled (with_entry old.memory (logged old.memory e))) × (new.journal.stopped ≡ old.journal.stopped)
 
--- why an entry is refused
-abbrev pub entry_refusal : DeviceState → Entry → Option PlainAnswer
-entry_refusal d e = refusal_by d.journal.stopped (takes_no_more d.memory) false (limit_against d.memory e)
-
 abbrev pub EntryFares : DeviceState → DeviceState → Entry → Result Done DeviceFault → Type 0
 EntryFares old new e = Fares (entry_refusal old e) (Unit {0}) (IsDone old new e) old new
 
@@ -151,11 +161,8 @@ module _ (old new : DeviceState) (reads : Bool) (result : Result Done DeviceFaul
 abbrev pub IsApplied : DeviceState → DeviceState → Entry → ℕ → Type 0
 IsApplied old new e number = (number ≡ (current old.memory).number + 1) × (new.memory ≡ with_entry old.memory (logged old.memory e)) × (new.journal ≡ old.journal)
 
-abbrev pub lazy_refusal_of : DeviceState → Entry → Option PlainAnswer
-lazy_refusal_of d e = refusal_by d.journal.stopped (takes_no_more d.memory) (nat_le 8 (length d.memory.unsettled)) (limit_against d.memory e)
-
 abbrev pub LazyFares : DeviceState → DeviceState → Entry → Result ℕ DeviceFault → Type 0
-LazyFares old new e = Fares (lazy_refusal_of old e) ⊥ (IsApplied old new e) old new
+LazyFares old new e = Fares (unsettled_refusal old e) ⊥ (IsApplied old new e) old new
 
 -- ---- unsettled entries are settled
 
@@ -164,7 +171,7 @@ abbrev pub AreSettled : DeviceState → DeviceState → ℕ → Type 0
 AreSettled old new number = (number ≡ (current old.memory).number) × (new.memory ≡ all_settled old.memory) × (new.journal.stopped ≡ old.journal.stopped)
 
 abbrev pub SettleFares : DeviceState → DeviceState → Result ℕ DeviceFault → Type 0
-SettleFares old new = Fares (refusal_by old.journal.stopped false false None) (old.memory.unsettled ≢ []) (AreSettled old new) old new
+SettleFares old new = Fares (stop_refusal old) (old.memory.unsettled ≢ []) (AreSettled old new) old new
 
 -- entries of another list of the same length are some too
 some_entries : (xs : List Logged) (ys : List PlainEntry) → length xs ≡ length ys → xs ≢ [] → has_entries ys ≡ true
@@ -179,7 +186,7 @@ module _ (old new : DeviceState) (reads : Bool) (result : Result ℕ DeviceFault
 
     lazy_step : (t : Admitted) → IsAdmitted old.memory.program t.turn → LazyFares old new (entry.Turn t.turn) result → IsStep p w new (command.Lazy place t) (fared_as new.journal.stopped reads result) (answered_as Applied result)
     lazy_step t admitted =
-        step_of p w old new is (command.Lazy place t) (lazy_refusal_of old (entry.Turn t.turn)) (lazy_refusal p w old is t admitted) Applied ⊥ (IsApplied old new (entry.Turn t.turn)) reads
+        step_of p w old new is (command.Lazy place t) (unsettled_refusal old (entry.Turn t.turn)) (lazy_refusal p w old is t admitted) Applied ⊥ (IsApplied old new (entry.Turn t.turn)) reads
         (λ number of. (ap Applied (of.0 ∙ ap (λ n. n + 1) is.now.number_is), device_applied p w old is (entry.Turn t.turn) (turn_entry t) (turn_plain p w old is t) new of.1 of.2 (tt, tt)))
         (λ none. absurd none)
         (λ none at memory stop. absurd none)
@@ -187,7 +194,7 @@ module _ (old new : DeviceState) (reads : Bool) (result : Result ℕ DeviceFault
 
     settle_step : SettleFares old new result → IsStep p w new (command.Settle place) (fared_as new.journal.stopped reads result) (answered_as Settled result)
     settle_step =
-        step_of p w old new is (command.Settle place) (refusal_by old.journal.stopped false false None) (settle_refusal p w old is) Settled (old.memory.unsettled ≢ []) (AreSettled old new) reads
+        step_of p w old new is (command.Settle place) (stop_refusal old) (settle_refusal p w old is) Settled (old.memory.unsettled ≢ []) (AreSettled old new) reads
         (λ number of. (ap Settled (of.0 ∙ is.now.number_is), device_settled p w old is new of.1 (of.2 ∙ is.stop)))
         (λ some. some_entries old.memory.unsettled (w.unsettled place) is.unsettled some)
         (λ calls at memory stop. device_stopped p w old is (w.unsettled place) at reads new memory stop)
@@ -204,3 +211,14 @@ module _ (old new : DeviceState) (reads : Bool) (result : Result ℕ DeviceFault
     answers = λ p w is free. (settle_step p w is fares).0;
     world = λ p w is free. (settle_step p w is fares).1;
   }
+
+-- ---- causes
+
+pub entry_caused : (old new : DeviceState) (e : Entry) (result : Result Done DeviceFault) → EntryFares old new e result → IsCausedBy (entry_refusal old e) (entered_as result)
+entry_caused old new e result fares = caused_by (entry_refusal old e) (Unit {0}) (IsDone old new e) old new (λ (done : Done). Entered done.number) (λ done. refl) result fares
+
+pub unsettled_caused : (old new : DeviceState) (e : Entry) (result : Result ℕ DeviceFault) → LazyFares old new e result → IsCausedBy (unsettled_refusal old e) (applied_as result)
+unsettled_caused old new e result fares = caused_by (unsettled_refusal old e) ⊥ (IsApplied old new e) old new Applied (λ n. refl) result fares
+
+pub settling_caused : (old new : DeviceState) (result : Result ℕ DeviceFault) → SettleFares old new result → IsCausedBy (stop_refusal old) (settled_as result)
+settling_caused old new result fares = caused_by (stop_refusal old) (old.memory.unsettled ≢ []) (AreSettled old new) old new Settled (λ n. refl) result fares

@@ -1,4 +1,5 @@
 pub mod Advancing
+pub mod Causes
 pub mod Committing
 pub mod Device
 pub mod Keeping

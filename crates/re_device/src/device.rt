@@ -1,5 +1,6 @@
 //! A device of a program, with its store.
 ghost use Rattle.std.specs.Prelude.{◌≡◌, ◌≢◌, ◌+◌, ◌<◌, ◌≤◌, ◌^◌, ◌↔◌, ◌++◌, ◌∷◌, [], ℕ, List, length, nat_le, IfOk, OnOk, true, false, None, Some, Err};
+ghost use Rattle.re_journal.specs.Journals.{calls_after};
 ghost use Rattle.re_outside.specs.Frame.{IsGeneration};
 ghost use Rattle.re_outside.specs.Moment.{Throughout};
 ghost use Rattle.re_print.specs.Canonical.{program_text};
@@ -12,7 +13,8 @@ ghost use Rattle.re_terms.specs.Shapes.{FitsShape, shape_of};
 ghost use Rattle.re_terms.specs.Views.{view_of};
 ghost use Rattle.re_terms.specs.WordKinds.{IsStateOf};
 ghost use Rattle.re_terms.specs.declared.command.Command.TheVariants as command;
-ghost use Rattle.re_device.specs.Committing.{HasDiskCause, HasSettlingSteps, record_reads_open};
+ghost use Rattle.re_device.specs.Causes.{IsCausedBy, entry_refusal, stop_refusal, unsettled_refusal};
+ghost use Rattle.re_device.specs.Committing.{HasDiskCause, HasSettlingSteps, record_reads_open, settling_calls};
 ghost use Rattle.re_device.specs.Device.{all_settled, current, limit_against, logged, opened_at, takes_no_more, with_entry};
 ghost use Rattle.re_device.specs.Refusals.{fault_of_limit};
 ghost use Rattle.re_device.specs.Taking.{IsSettlingFault};
@@ -145,6 +147,7 @@ impl Device {
         ensures world { StepsTo self.old self.new (command.Turn self.old.memory.device turn) (fared_as self.new.journal.stopped (record_reads_open self.old (D.past disk.old) (D.past disk.new)) result) (entered_as result) }
 
         // When each refusal comes, and that nothing has changed then.
+        ensures caused { IsCausedBy (entry_refusal self.old (Entry.Turn turn.turn)) (entered_as result) }
         ensures running { OnOk result (self.old.journal.stopped ≡ None) }
         ensures stopped { (at : ℕ) → (result ≡ Err (DeviceFault.Stopped at)) ↔ (self.old.journal.stopped ≡ Some at) }
         ensures full { (result ≡ Err DeviceFault.Full) ↔ ((self.old.journal.stopped ≡ None) × (takes_no_more self.old.memory ≡ true)) }
@@ -159,6 +162,9 @@ impl Device {
 
         // The calls of the disk, in order, up to the first that failed.
         ensures steps { D.tells → HasSettlingSteps self.old (self.old.memory.unsettled ++ logged self.old.memory (Entry.Turn turn.turn) ∷ []) self.new.journal.stopped (D.past disk.old) (D.past disk.new) result }
+
+        // How many calls the device has made since it was opened, by which a failed one is numbered.
+        ensures calls { OnOk result (self.new.journal.calls ≡ calls_after (settling_calls self.old) self.old.journal.calls) }
 
         // A stop at any moment leaves all that was settled, with the entries of the record whole or with none of them.
         ensures each_moment { D.tells → StandsSettled self.old (D.past disk.old) → Throughout (D.past disk.old) (D.past disk.new) (LeavesEither self.old.memory (current (with_entry self.old.memory (logged self.old.memory (Entry.Turn turn.turn)))) (D.past disk.old)) }
@@ -198,6 +204,7 @@ impl Device {
         ensures world { (k : ℕ) → StepsWhere (IsPacketOf self.old k state) self.old self.new (command.Deliver k self.old.memory.device) (fared_as self.new.journal.stopped (record_reads_open self.old (D.past disk.old) (D.past disk.new)) result) (entered_as result) }
 
         // When each refusal comes, and that nothing has changed then.
+        ensures caused { IsCausedBy (entry_refusal self.old (Entry.Merge state)) (entered_as result) }
         ensures running { OnOk result (self.old.journal.stopped ≡ None) }
         ensures stopped { (at : ℕ) → (result ≡ Err (DeviceFault.Stopped at)) ↔ (self.old.journal.stopped ≡ Some at) }
         ensures full { (result ≡ Err DeviceFault.Full) ↔ ((self.old.journal.stopped ≡ None) × (takes_no_more self.old.memory ≡ true)) }
@@ -212,6 +219,9 @@ impl Device {
 
         // The calls of the disk, in order, up to the first that failed.
         ensures steps { D.tells → HasSettlingSteps self.old (self.old.memory.unsettled ++ logged self.old.memory (Entry.Merge state) ∷ []) self.new.journal.stopped (D.past disk.old) (D.past disk.new) result }
+
+        // How many calls the device has made since it was opened, by which a failed one is numbered.
+        ensures calls { OnOk result (self.new.journal.calls ≡ calls_after (settling_calls self.old) self.old.journal.calls) }
 
         // A stop at any moment leaves all that was settled, with the entries of the record whole or with none of them.
         ensures each_moment { D.tells → StandsSettled self.old (D.past disk.old) → Throughout (D.past disk.old) (D.past disk.new) (LeavesEither self.old.memory (current (with_entry self.old.memory (logged self.old.memory (Entry.Merge state)))) (D.past disk.old)) }
@@ -249,6 +259,7 @@ impl Device {
         ensures world { StepsTo self.old self.new (command.Lazy self.old.memory.device turn) (fared_as self.new.journal.stopped false result) (applied_as result) }
 
         // When each refusal comes, and that nothing has changed then.
+        ensures caused { IsCausedBy (unsettled_refusal self.old (Entry.Turn turn.turn)) (applied_as result) }
         ensures running { OnOk result (self.old.journal.stopped ≡ None) }
         ensures stopped { (at : ℕ) → (result ≡ Err (DeviceFault.Stopped at)) ↔ (self.old.journal.stopped ≡ Some at) }
         ensures full { (result ≡ Err DeviceFault.Full) ↔ ((self.old.journal.stopped ≡ None) × (takes_no_more self.old.memory ≡ true)) }
@@ -282,6 +293,7 @@ impl Device {
         ensures world { StepsTo self.old self.new (command.Settle self.old.memory.device) (fared_as self.new.journal.stopped (record_reads_open self.old (D.past disk.old) (D.past disk.new)) result) (settled_as result) }
 
         // When each refusal comes, and that nothing has changed then.
+        ensures caused { IsCausedBy (stop_refusal self.old) (settled_as result) }
         ensures running { OnOk result (self.old.journal.stopped ≡ None) }
         ensures stopped { (at : ℕ) → (result ≡ Err (DeviceFault.Stopped at)) ↔ (self.old.journal.stopped ≡ Some at) }
         ensures only { (f : DeviceFault) → result ≡ Err f → IsSettlingFault f }
@@ -293,6 +305,9 @@ impl Device {
 
         // The calls of the disk, in order, up to the first that failed; where nothing is unsettled `none` says that no call is made.
         ensures steps { D.tells → self.old.memory.unsettled ≢ [] → HasSettlingSteps self.old self.old.memory.unsettled self.new.journal.stopped (D.past disk.old) (D.past disk.new) result }
+
+        // How many calls the device has made since it was opened, by which a failed one is numbered.
+        ensures calls { self.old.memory.unsettled ≢ [] → OnOk result (self.new.journal.calls ≡ calls_after (settling_calls self.old) self.old.journal.calls) }
 
         // A stop at any moment leaves all that was settled, with the unsettled entries whole or with none of them.
         ensures each_moment { D.tells → StandsSettled self.old (D.past disk.old) → Throughout (D.past disk.old) (D.past disk.new) (LeavesEither self.old.memory (current self.old.memory) (D.past disk.old)) }

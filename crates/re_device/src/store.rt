@@ -5,10 +5,11 @@ ghost use Rattle.re_record.specs.Restoring.{after_all};
 ghost use Rattle.re_terms.specs.Listed.{plain};
 ghost use Rattle.re_terms.specs.declared.entry.Logged.{Logged as LoggedEntry};
 ghost use Rattle.re_journal.specs.Commits.{HasCause, StopsJournal};
+ghost use Rattle.re_journal.specs.Journals.{calls_after};
 ghost use Rattle.re_journal.specs.declared.fault.JournalFault.{JournalFault as TheJournalFault};
 ghost use Rattle.re_journal.specs.declared.fault.JournalFault.TheVariants.{Disk as JournalDisk, Stopped as JournalStopped};
 ghost use Rattle.re_outside.specs.Trace.{with_steps};
-ghost use Rattle.re_device.specs.Committing.{HasDiskCause, HasSettlingSteps, due_snapshot, framed_record, is_due, next_generation, record_reads_open, settling_steps};
+ghost use Rattle.re_device.specs.Committing.{HasDiskCause, HasSettlingSteps, due_snapshot, framed_record, is_due, next_generation, record_reads_open, settling_calls, settling_steps};
 ghost use Rattle.re_device.specs.Device.{all_settled, current, logged, takes_no_more, with_entry};
 ghost use Rattle.re_device.specs.Ready.{IsFrameOf, IsReady, MaySettle};
 ghost use Rattle.re_device.specs.Standing.{LeavesEither, ReadsBy, StandsAt, StandsSettled};
@@ -194,6 +195,7 @@ impl Device {
         ensures memory { (self.new.memory ≡ self.old.memory) × (self.new.room ≡ self.old.room) }
         ensures generation { OnOk result (self.new.generation ≡ next_generation self.old) }
         ensures runs { OnOk result (self.new.journal.stopped ≡ self.old.journal.stopped) }
+        ensures calls { OnOk result (self.new.journal.calls ≡ calls_after (settling_calls self.old) self.old.journal.calls) }
         ensures done { (entries : List LoggedEntry) → D.tells → IsReady self.old entries ready.now → OnOk result (D.past disk.new ≡ with_steps (D.past disk.old) (settling_steps (D.past disk.old).device self.old entries)) }
         ensures failed { (entries : List LoggedEntry) → D.tells → IsReady self.old entries ready.now → result ≡ Err JournalDisk → StopsJournal (settling_steps (D.past disk.old).device self.old entries) self.old.journal.calls self.new.journal.stopped (D.past disk.old) (D.past disk.new) }
         ensures cause { HasCause self.old.journal.stopped (D.faults disk.old) (D.faults disk.new) result }
@@ -226,6 +228,7 @@ impl Device {
         requires taken { MayBeTaken self.old.memory taken }
         ensures memory { OnOk result (self.new.memory ≡ all_settled (with_entry self.old.memory taken.logged)) }
         ensures runs { OnOk result (self.new.journal.stopped ≡ None) }
+        ensures calls { OnOk result (self.new.journal.calls ≡ calls_after (settling_calls self.old) self.old.journal.calls) }
         ensures done { IfOk result (λ done. (done.number ≡ (current self.old.memory).number + 1) × (done.evaluated ≡ taken.evaluated)) }
         ensures cause { HasDiskCause (D.faults disk.old) (D.faults disk.new) result }
         ensures refused { (f : DeviceFault) → result ≡ Err f → self.new.memory ≡ self.old.memory }

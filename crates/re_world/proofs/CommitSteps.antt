@@ -188,7 +188,7 @@ module _ (p : Program) (w : World) (v : WorldState) (c : Command) (x : DeviceSta
     abbrev gate_open : Bool
     gate_open = record_reads_open x old_past new_past
 
-    failed_steps : Commits P entries after c (answered_as done) x x' old_past new_past (Err fault.Disk) → Leaves {T} x x' (Err fault.Disk) → Steps (Err fault.Disk)
+    failed_steps : Commits P entries after c (answered_as done) x x' old_past new_past (Err fault.Disk) → Leaves {T = T} x x' (Err fault.Disk) → Steps (Err fault.Disk)
     failed_steps commits leaves = (
       behind (doubt w d (record_of w c) at gate_open) (Failed at gate_open) (sym is_doubt) (kept runs after (leads (Err fault.Disk) commits) (commits.moments there))
           (subst (λ u. HasDevice p u d (Some x') new_past) is_doubt (own (Err fault.Disk) commits, number, λ e. absurd (leaves.stops refl (stop_is (Err fault.Disk) commits ∙ e))))
@@ -206,7 +206,7 @@ module _ (p : Program) (w : World) (v : WorldState) (c : Command) (x : DeviceSta
         is_doubt = failed_is p w c d commit at gate_open (λ e. absurd (leaves.stops refl (stop_is (Err fault.Disk) commits ∙ e ∙ sym has.0.stop ∙ runs)))
 
     -- refused for another cause it has changed nothing
-    still_steps : (f : DeviceFault) → f ≢ fault.Disk → world_after p w c (fared (Err f)) ≡ w → Commits P entries after c (answered_as done) x x' old_past new_past (Err f) → Leaves {T} x x' (Err f) → Steps (Err f)
+    still_steps : (f : DeviceFault) → f ≢ fault.Disk → world_after p w c (fared (Err f)) ≡ w → Commits P entries after c (answered_as done) x x' old_past new_past (Err f) → Leaves {T = T} x x' (Err f) → Steps (Err f)
     still_steps f other same commits leaves = (
       behind w (fared (Err f)) (sym same) (λ e g _. subst (λ q. IsKept e g (past_in 0 before) q) (sym past_same) (record { content = refl; images = λ file image. image }))
           (subst (λ q. HasDevice p w d (Some x') q) (sym unmoved.1) (subst (λ y. HasDevice p w d (Some y) old_past) (sym unmoved.0) has)) (subst (RestsAs p w d) (sym unmoved.1) (is.files d below)),
@@ -214,7 +214,7 @@ module _ (p : Program) (w : World) (v : WorldState) (c : Command) (x : DeviceSta
     )
       where
         unmoved : (x' ≡ x) × (new_past ≡ old_past)
-        unmoved = (leaves.refused f refl other, unmoved_settling {T} x entries x'.journal.stopped old_past new_past (Err f) f commits.calls.made (λ none. (commits.calls.none none).1) refl other)
+        unmoved = (leaves.refused f refl other, unmoved_settling {T = T} x entries x'.journal.stopped old_past new_past (Err f) f commits.calls.made (λ none. (commits.calls.none none).1) refl other)
 
         past_same : past_in 0 now ≡ past_in 0 before
         past_same = ap (as_device 0) unmoved.1

@@ -71,13 +71,13 @@ packet_state v k bytes state at packet only =
 
 -- ---- the packets as they are kept
 
-module _ (p : Program) (w : World) (v : WorldState) (s : Seen) (is : IsWorldOf p w v s) (kept : List (Listed ℕ)) (same : v.packets ≡ map (λ (bytes : Listed ℕ). bytes.items) kept) where
-  packet_count : length w.packets ≡ length kept
-  packet_count = sym (length-map w.packets (spelled p)) ∙ ap (λ (l : List (List ℕ)). length l) (sym is.packets ∙ same) ∙ length-map kept (λ (bytes : Listed ℕ). bytes.items)
+-- as many packets are seen as are kept
+module _ (v : WorldState) (kept : List (Listed ℕ)) (same : v.packets ≡ map (λ (bytes : Listed ℕ). bytes.items) kept) where
+  seen_count : length v.packets ≡ length kept
+  seen_count = ap (λ (l : List (List ℕ)). length l) same ∙ length-map kept (λ (bytes : Listed ℕ). bytes.items)
 
-  -- there is no packet with this number
-  pub none_there : (k : ℕ) → slice_get kept k ≡ None → nat_le (length w.packets) k ≡ true
-  none_there k none = let count = packet_count in let past = none_past kept k none in let behind : length w.packets ≤ k = omega (arith, count, past) in reached (length w.packets) k behind
+  pub none_seen : (k : ℕ) → slice_get kept k ≡ None → nat_le (length v.packets) k ≡ true
+  none_seen k none = let count = seen_count in let past = none_past kept k none in reached (length v.packets) (omega (arith, count, past))
     where
       none_past : {X : Type 0} (xs : List X) (i : ℕ) → slice_get xs i ≡ None → length xs ≤ i
       none_past [] i e = omega arith
@@ -87,15 +87,30 @@ module _ (p : Program) (w : World) (v : WorldState) (s : Seen) (is : IsWorldOf p
           some_none x h = cc
       none_past (x ∷ xs) (suc i) e = let rest = none_past xs i e in omega (arith, rest)
 
-      reached : (n i : ℕ) → n ≤ i → nat_le n i ≡ true
-      reached n i h = grind (arith, nat_tests)
+      reached : (n : ℕ) → n ≤ k → nat_le n k ≡ true
+      reached n h = grind (arith, nat_tests)
+
+  pub one_below : (k : ℕ) (bytes : Listed ℕ) → slice_get kept k ≡ Some bytes → k < length v.packets
+  one_below k bytes at = let count = seen_count in let within = slice_get_within kept k bytes at in omega (arith, count, within)
+
+  pub one_seen : (k : ℕ) (bytes : Listed ℕ) → slice_get kept k ≡ Some bytes → nat_le (length v.packets) k ≡ false
+  one_seen k bytes at = missed (length v.packets) (one_below k bytes at)
+    where
+      missed : (n : ℕ) → k < n → nat_le n k ≡ false
+      missed n h = grind (arith, nat_tests)
+
+-- a world has as many
+module _ (p : Program) (w : World) (v : WorldState) (s : Seen) (is : IsWorldOf p w v s) (kept : List (Listed ℕ)) (same : v.packets ≡ map (λ (bytes : Listed ℕ). bytes.items) kept) where
+  world_count : length v.packets ≡ length w.packets
+  world_count = ap (λ (l : List (List ℕ)). length l) is.packets ∙ length-map w.packets (spelled p)
+
+  -- there is no packet with this number
+  pub none_there : (k : ℕ) → slice_get kept k ≡ None → nat_le (length w.packets) k ≡ true
+  none_there k none = ap (λ n. nat_le n k) (sym world_count) ∙ none_seen v kept same k none
 
   -- there is one
   pub one_there : (k : ℕ) (bytes : Listed ℕ) → slice_get kept k ≡ Some bytes → nat_le (length w.packets) k ≡ false
-  one_there k bytes at = let count = packet_count in let within = slice_get_within kept k bytes at in let before : k < length w.packets = omega (arith, count, within) in missed (length w.packets) k before
-    where
-      missed : (n i : ℕ) → i < n → nat_le n i ≡ false
-      missed n i h = grind (arith, nat_tests)
+  one_there k bytes at = ap (λ n. nat_le n k) (sym world_count) ∙ one_seen v kept same k bytes at
 
 -- the bytes of a packet that is kept
 pub kept_at : (v : WorldState) (kept : List (Listed ℕ)) (k : ℕ) (bytes : Listed ℕ) → v.packets ≡ map (λ (b : Listed ℕ). b.items) kept → slice_get kept k ≡ Some bytes → slice_get v.packets k ≡ Some bytes.items

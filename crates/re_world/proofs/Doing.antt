@@ -25,6 +25,7 @@ use Rattle.re_world.proofs.CommitSteps.{answered_steps}
 use Rattle.re_world.proofs.Committed.{IsCommit}
 use Rattle.re_world.proofs.FilesMade.{commits_by}
 use Rattle.re_world.specs.Calls.{Commits, Leaves}
+use Rattle.re_world.specs.Causes.{HasCause}
 use Rattle.re_world.specs.FileSteps.{CommitsBy, HasFileSteps, Writes, is_disk_refusal}
 use Rattle.re_world.specs.Standing.{HasDevice, IsWorldOf}
 use Rattle.re_world.specs.State.{WorldState, device_in}
@@ -70,6 +71,7 @@ pub record CommitFacts {T : Type 0} (P : Program → World → Type 0) (done : T
   pub enters : (y : T) → may_have_entered (done y) ≡ true
   pub calm : (y : T) → (is_disk_refusal (done y) ≡ false) × (is_refusal (done y) ≡ false)
   pub leaves : Leaves x x' r
+  pub caused : HasCause old (c n) (answered_as done r)
   pub same : x' ≡ x → new ≡ old
   pub writes : Writes old (c n) x entries
   -- what makes the file calls of a command that commits makes those of this one, and what fails of such a command fails of it
@@ -203,6 +205,7 @@ module _ {T : Type 0} (P : Program → World → Type 0) (done : T → PlainAnsw
   own_does : Facts x.memory.device → DoesCommand tells old new (c x.memory.device) a before now
   own_does facts = record {
     keeps = keeps x.memory.device facts;
+    caused = subst (HasCause old (c x.memory.device)) (sym facts.answer) facts.caused;
     ascends = facts.ascends;
     counts = subst (λ q. CountsBy (c x.memory.device) q before now) (sym facts.answer) (counts_by x.memory.device facts r facts.cause);
     left = facts.left;

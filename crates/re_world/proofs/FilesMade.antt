@@ -69,11 +69,11 @@ module _ (old new : WorldState) (c : Command) (d : ℕ) (commit : Commit old new
   abbrev new_past : Past
   new_past = past_in d now
 
-  made_all : {T : Type 0} (y : T) (entries : List Logged) → MakesCalls {T} entries x x' old_past new_past (Ok y) → (new_past ≡ with_steps old_past (steps_of d x entries)) × (x'.journal.calls ≡ calls_behind (steps_of d x entries) x.journal.calls)
+  made_all : {T : Type 0} (y : T) (entries : List Logged) → MakesCalls {T = T} entries x x' old_past new_past (Ok y) → (new_past ≡ with_steps old_past (steps_of d x entries)) × (x'.journal.calls ≡ calls_behind (steps_of d x entries) x.journal.calls)
   made_all y [] calls = ((calls.none refl).1 ∙ sym (with_none old_past), ap (λ (z : DeviceState). z.journal.calls) (calls.none refl).0)
   made_all y (e ∷ entries) calls = (calls.made (λ h. absurd (cc)), calls.counted (λ h. absurd (cc)) ∙ sym (settling_count d x (e ∷ entries) x.journal.calls))
 
-  made_some : {T : Type 0} (entries : List Logged) → MakesCalls {T} entries x x' old_past new_past (Err fault.Disk) → x.journal.stopped ≡ None → x'.journal.stopped ≢ None → StopsJournal (steps_of d x entries) x.journal.calls x'.journal.stopped old_past new_past
+  made_some : {T : Type 0} (entries : List Logged) → MakesCalls {T = T} entries x x' old_past new_past (Err fault.Disk) → x.journal.stopped ≡ None → x'.journal.stopped ≢ None → StopsJournal (steps_of d x entries) x.journal.calls x'.journal.stopped old_past new_past
   made_some [] calls runs stops = absurd (stops (ap (λ (z : DeviceState). z.journal.stopped) (calls.none refl).0 ∙ runs))
   made_some (e ∷ entries) calls runs stops = calls.made (λ h. absurd (cc))
 
@@ -100,8 +100,8 @@ module _ (old new : WorldState) (c : Command) (d : ℕ) (commit : Commit old new
             other : ◌≡◌ {A = Result T DeviceFault} (Err fault.Disk) (Err (fault.Stopped at)) → ⊥
             other h = cc
 
-    still : (f : DeviceFault) → f ≢ fault.Disk → MakesCalls {T} commit.entries x x' old_past new_past (Err f) → new_past ≡ old_past
-    still f other calls = unmoved_settling {T} x commit.entries x'.journal.stopped old_past new_past (Err f) f calls.made (λ none. (calls.none none).1) refl other
+    still : (f : DeviceFault) → f ≢ fault.Disk → MakesCalls {T = T} commit.entries x x' old_past new_past (Err f) → new_past ≡ old_past
+    still f other calls = unmoved_settling {T = T} x commit.entries x'.journal.stopped old_past new_past (Err f) f calls.made (λ none. (calls.none none).1) refl other
 
     pub commits_by : (r : Result T DeviceFault) → Leaves x x' r → Stops r → MakesCalls commit.entries x x' old_past new_past r → By r
     commits_by (Ok y) leaves stopped calls = done_by y calls

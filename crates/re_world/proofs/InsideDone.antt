@@ -40,9 +40,11 @@ use Rattle.re_terms.specs.declared.program.Program.{Program}
 use Rattle.re_world.proofs.Agreeing.{opens_in}
 use Rattle.re_world.proofs.Inside.{device_has, stop_first}
 use Rattle.re_world.proofs.Lent.{none_taken, place_below, place_elsewhere, place_here}
+use Rattle.re_world.proofs.Caused.{caused_free, device_is, found_up}
 use Rattle.re_world.proofs.Staying.{counts_still, keeps_done, keeps_still}
 use Rattle.re_world.proofs.Stepped.{world_behind}
 use Rattle.re_world.proofs.Within.{within_still}
+use Rattle.re_world.specs.Causes.{HasCause}
 use Rattle.re_world.specs.FileSteps.{HasFileSteps, is_disk_refusal}
 use Rattle.re_world.specs.Standing.{HasDevice, IsWorldOf, RestsAs}
 use Rattle.re_world.specs.State.{WorldState, device_in}
@@ -91,9 +93,10 @@ module _ (p : Program) (w : World) (old new : WorldState) (s : Seen) (c : Comman
       (back (λ x. HasDevice p x n (device_in new n) (past_in n s)) has)
 
 -- a command that calls nothing outside does all that a command does
-pub done_does : (old new : WorldState) (c : Command) (a : Answer) → AscendsWhereSet a → is_disk_refusal (plain_answer a) ≡ false → Keeps old new c (plain_answer a) → ((s : Seen) → HasFileSteps old new c (plain_answer a) s s) → (o : Outcome) → ((s : Seen) → Shows old new c o s s) → ((p : Program) (w : World) (s : Seen) → IsWorldOf p w old s → plain_answer a ≡ reply p w c o) → ((p : Program) (w : World) (s : Seen) → IsWorldOf p w old s → IsWorldOf p (world_after p w c o) new s) → DoesInside old new c a
-done_does old new c a ascends calm keeps files o shows answers world tells s = record {
+pub done_does : (old new : WorldState) (c : Command) (a : Answer) → AscendsWhereSet a → is_disk_refusal (plain_answer a) ≡ false → Keeps old new c (plain_answer a) → HasCause old c (plain_answer a) → ((s : Seen) → HasFileSteps old new c (plain_answer a) s s) → (o : Outcome) → ((s : Seen) → Shows old new c o s s) → ((p : Program) (w : World) (s : Seen) → IsWorldOf p w old s → plain_answer a ≡ reply p w c o) → ((p : Program) (w : World) (s : Seen) → IsWorldOf p w old s → IsWorldOf p (world_after p w c o) new s) → DoesInside old new c a
+done_does old new c a ascends calm keeps caused files o shows answers world tells s = record {
   keeps = keeps;
+  caused = caused;
   ascends = ascends;
   counts = counts_still c (plain_answer a) s calm;
   left = λ told. refl;
@@ -108,9 +111,9 @@ done_does old new c a ascends calm keeps files o shows answers world tells s = r
 }
 
 -- one that only tells something leaves the world
-pub told_does : (v : WorldState) (c : Command) (a : Answer) → AscendsWhereSet a → is_disk_refusal (plain_answer a) ≡ false → ((s : Seen) → HasFileSteps v v c (plain_answer a) s s) → ((w : World) → done_world w c ≡ w) → ((p : Program) (w : World) (s : Seen) → IsWorldOf p w v s → (refusal p w c ≡ None) × (plain_answer a ≡ done_answer p w c)) → DoesInside v v c a
-told_does v c a ascends calm files same told =
-    done_does v v c a ascends calm (keeps_still v c (plain_answer a) calm) files Fine (λ s kind. refl)
+pub told_does : (v : WorldState) (c : Command) (a : Answer) → AscendsWhereSet a → is_disk_refusal (plain_answer a) ≡ false → HasCause v c (plain_answer a) → ((s : Seen) → HasFileSteps v v c (plain_answer a) s s) → ((w : World) → done_world w c ≡ w) → ((p : Program) (w : World) (s : Seen) → IsWorldOf p w v s → (refusal p w c ≡ None) × (plain_answer a ≡ done_answer p w c)) → DoesInside v v c a
+told_does v c a ascends calm caused files same told =
+    done_does v v c a ascends calm (keeps_still v c (plain_answer a) calm) caused files Fine (λ s kind. refl)
     (λ p w s is. (told p w s is).1 ∙ sym (replied p w c (told p w s is).0))
     (λ p w s is. subst (λ u. IsWorldOf p u v s) (sym (done_after p w c (told p w s is).0 ∙ same w)) is)
 
@@ -127,7 +130,7 @@ module _ (old : WorldState) (n : ℕ) (of : IsCommandOf old.program (command.Cra
   crash_does new x place is_new =
       done_does old new (command.Crash n) answer.Down tt refl
       (keeps_done old new (command.Crash n) Down refl (ap (λ (v : WorldState). v.program) is_new) (λ d other. ap (λ (v : WorldState). device_in v d) is_new ∙ place_elsewhere old.devices n d None (λ same. other (ap Some (sym same)))) (λ is. absurd (true≢false (sym is))))
-      (λ s. refl) Fine (λ s kind. refl)
+      (caused_free old (command.Crash n) Down refl (λ state merges. device_is old (command.Crash n) refl state x (found_up old n x place) refl place)) (λ s. refl) Fine (λ s kind. refl)
       (λ p w s is. sym (replied p w (command.Crash n) (crash_unrefused p w s x is place)))
       (λ p w s is.
       done_behind p w old new s (command.Crash n) n is (subst (λ q. IsCommandOf q (command.Crash n)) is.program of) (subst (λ (q : Program). n < device_count q.decls.items) is.program of) refl

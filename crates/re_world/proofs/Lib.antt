@@ -1,5 +1,6 @@
 pub mod Agreeing
 pub mod Beginning
+pub mod Caused
 pub mod CommitKinds
 pub mod CommitSteps
 pub mod Committed

@@ -8,6 +8,7 @@ use Rattle.std.proofs.lemmas.Bool.Decides.{nat_tests}
 use Rattle.std.proofs.lemmas.List.{length-append, length-map, map-append}
 use Rattle.std.proofs.lemmas.List.Elements.{All-push}
 use Rattle.re_device.proofs.Opening.{shown_packet_is}
+use Rattle.re_device.specs.Causes.{refusal_by}
 use Rattle.re_device.specs.Device.{DeviceState}
 use Rattle.re_device.specs.Stepping.{IsDeviceOf}
 use Rattle.re_outside.specs.Listed.{Listed as Bytes}
@@ -22,15 +23,17 @@ use Rattle.re_terms.specs.Shapes.{FitsShape, shape_of}
 use Rattle.re_terms.specs.Spellings.{packet_bytes}
 use Rattle.re_terms.specs.UpdateStates.{state_of_updates}
 use Rattle.re_terms.specs.Updates.{Update}
-use Rattle.re_terms.specs.Worlds.{Packet, Refused}
+use Rattle.re_terms.specs.Worlds.{Packet, PlainAnswer, Refused}
 use Rattle.re_terms.specs.declared.command.Answer.TheVariants as answer
 use Rattle.re_terms.specs.declared.command.Command.TheVariants as command
 use Rattle.re_terms.specs.declared.program.Program.{Program}
 use Rattle.re_terms.specs.declared.replicated.RState.{RState}
+use Rattle.re_world.proofs.Caused.{caused_as, caused_free, device_is, found_up}
 use Rattle.re_world.proofs.Inside.{device_has, refused_before, unrefused}
 use Rattle.re_world.proofs.InsideDone.{done_behind, done_does, replied}
 use Rattle.re_world.proofs.Staying.{keeps_done}
 use Rattle.re_world.proofs.Told.{packet_count}
+use Rattle.re_world.specs.Causes.{refusal_in}
 use Rattle.re_world.specs.Standing.{HasDevice, IsWorldOf}
 use Rattle.re_world.specs.State.{AllPlaced, IsKept, IsPacket, IsPlaced, WorldState, device_in, seen_of}
 use Rattle.re_world.specs.Stepping.{DoesInside}
@@ -85,12 +88,22 @@ module _ (old : WorldState) (n : ℕ) (x : DeviceState) (of : IsCommandOf old.pr
   by_packets : (p : Program) (w : World) (s : Seen) → IsWorldOf p w old s → refusal p w (command.Send n) ≡ option_or (refused_where (nat_le 10000 (length w.packets)) 35) None
   by_packets p w s is = unrefused p w old s (command.Send n) n x is of place runs refl refl refl refl
 
+  sends : (state : RState) → refusal_in old state (command.Send n) ≡ option_or (refused_where (nat_le 10000 (length old.packets)) 35) None
+  sends state = device_is old (command.Send n) refl state x (found_up old n x place) refl place ∙ ap (λ o. option_or (refusal_by o false false None) (refused_where (nat_le 10000 (length old.packets)) 35)) runs ∙ alone (refused_where (nat_le 10000 (length old.packets)) 35)
+    where
+      alone : (r : Option PlainAnswer) → r ≡ option_or r None
+      alone None = refl
+      alone (Some a) = refl
+
   -- as many were made as there may be
   pub send_none : 10000 ≤ length old.packets → DoesInside old old (command.Send n) (answer.No 35)
   send_none many =
-      refused_before old (command.Send n) (answer.No 35) tt refl refl refl
+      refused_before old (command.Send n) (answer.No 35) tt refl refl (caused_as old (command.Send n) (Refused 35) (λ state merges. sends state ∙ ap (λ b. option_or (refused_where b 35) None) (all_made many))) refl
       (λ p w s is. by_packets p w s is ∙ ap (λ b. option_or (refused_where b 35) None) (reached w (subst (λ m. 10000 ≤ m) (packet_count p w old s is) many)))
     where
+      all_made : 10000 ≤ length old.packets → nat_le 10000 (length old.packets) ≡ true
+      all_made past = grind (arith, nat_tests)
+
       reached : (w : World) → 10000 ≤ length w.packets → nat_le 10000 (length w.packets) ≡ true
       reached w past = grind (arith, nat_tests)
 
@@ -125,6 +138,7 @@ module _ (old : WorldState) (n : ℕ) (x : DeviceState) (of : IsCommandOf old.pr
   send_does new bytes k few fits spelt is_new number =
       done_does old new (command.Send n) (answer.Packet k) tt refl
       (keeps_done old new (command.Send n) (Packet k) refl (ap (λ (v : WorldState). v.program) is_new) (λ d other. ap (λ (v : WorldState). device_in v d) is_new) (λ is. absurd (true≢false (sym is))))
+      (caused_free old (command.Send n) (Packet k) refl (λ state merges. sends state ∙ ap (λ b. option_or (refused_where b 35) None) (fewer few)))
       (λ s. refl) Fine (λ s kind. refl)
       (λ p w s is. ap Packet (number ∙ packet_count p w old s is) ∙ sym (replied p w (command.Send n) (send_unrefused p w s few is)))
       (λ p w s is.
@@ -138,6 +152,9 @@ module _ (old : WorldState) (n : ℕ) (x : DeviceState) (of : IsCommandOf old.pr
       (All-push (λ us. FitsShape (shape_of p) (state_of_updates (shape_of p) us)) w.packets (settled_taken w n) is.fit (settled_fits p w has.0 has.1 fits))
       (subst (λ o. HasDevice p (with_packet n w) n o (past_in n s)) (sym (ap (λ (v : WorldState). device_in v n) is_new ∙ place)) (same_device p w has.0, has.1, has.2)))
     where
+      fewer : length old.packets < 10000 → nat_le 10000 (length old.packets) ≡ false
+      fewer under = grind (arith, nat_tests)
+
       packets : (p : Program) (w : World) → IsDeviceOf p w x → x.memory.device ≡ n → old.packets ≡ map (spelled p) w.packets → old.packets ++ bytes ∷ [] ≡ map (spelled p) (w.packets ++ settled_taken w n ∷ [])
       packets p w is own same =
           (λ i. same i ++ (spelt ∙ shown_packet_is p w x is ∙ ap (λ m. spelled p (settled_taken w m)) own) i ∷ [])

@@ -14,7 +14,7 @@ use Rattle.re_terms.specs.Shapes.{FitsShape, shape_of}
 use Rattle.re_terms.specs.Untouched.{IsUntouched}
 use Rattle.re_terms.specs.UpdateStates.{state_of_updates}
 use Rattle.re_terms.specs.declared.program.Program.{Program}
-use Rattle.re_world.proofs.Agreeing.{device_agrees, rests_agree}
+use Rattle.re_world.proofs.Agreeing.{device_agrees, rests_agree, untouched_same}
 use Rattle.re_world.proofs.Kept.{stands_kept}
 use Rattle.re_world.specs.Standing.{HasDevice, IsWorldOf, RestsAs}
 use Rattle.re_world.specs.State.{WorldState, device_in}
@@ -54,4 +54,15 @@ world_behind p w v old new before now d is causal agrees same kept program packe
   ];
   packets = packets;
   fit = fit;
+}
+
+-- where no file has moved a world is what it was
+pub world_kept : (p : Program) (w : World) (v : WorldState) (before now : Seen) → IsWorldOf p w v before → ((e f : ℕ) → IsKept e f (past_in 0 before) (past_in 0 now)) → IsWorldOf p w v now
+world_kept p w v before now is kept = record {
+  program = is.program;
+  causal = is.causal;
+  devices = λ e below. other_stands p w w e (device_in v e) before now below is.causal (untouched_same e w) (kept e) (is.devices e below);
+  files = λ e below. rests_agree p w w e (past_in 0 before) (past_in 0 now) (untouched_same e w) (kept e) (is.files e below);
+  packets = is.packets;
+  fit = is.fit;
 }

@@ -5,6 +5,7 @@ use Rattle.std.specs.List.{All}
 use Rattle.std.specs.Option.{option_map_or}
 use mathlib.Core.Bool.{true≢false}
 use Rattle.re_compact.specs.Pair.{StandsIn}
+use Rattle.re_device.specs.Causes.{IsCausedBy, unsettled_refusal}
 use Rattle.re_device.specs.Device.{DeviceState, with_entry}
 use Rattle.re_device.specs.Standing.{StandsSettled}
 use Rattle.re_device.specs.Stepping.{IsDeviceOf, StepsTo, applied_as, fared_as, refused_as}
@@ -28,12 +29,15 @@ use Rattle.re_terms.specs.declared.command.Answer.TheVariants as answer
 use Rattle.re_terms.specs.declared.command.Command.{Command}
 use Rattle.re_terms.specs.declared.command.Command.TheVariants as command
 use Rattle.re_terms.specs.declared.entry.Admitted.{Admitted}
+use Rattle.re_terms.specs.declared.entry.Entry.TheVariants as entry
 use Rattle.re_terms.specs.declared.entry.Logged.{Logged}
 use Rattle.re_terms.specs.declared.program.Program.{Program}
+use Rattle.re_world.proofs.Caused.{device_is, found_up}
 use Rattle.re_world.proofs.Inside.{device_has}
 use Rattle.re_world.proofs.InsideDone.{HoldsAlike, done_does, inside_behind}
 use Rattle.re_world.proofs.Lent.{back_elsewhere, back_here, back_same, place_below}
 use Rattle.re_world.proofs.Staying.{keeps_done}
+use Rattle.re_world.specs.Causes.{HasCause}
 use Rattle.re_world.specs.FileSteps.{is_disk_refusal}
 use Rattle.re_world.specs.Standing.{HasDevice, IsWorldOf}
 use Rattle.re_world.specs.State.{WorldState, device_in}
@@ -166,6 +170,7 @@ pub record IsLazy (old new : WorldState) (n : ℕ) (x x' : DeviceState) (t : Adm
   pub own : KeepsOwn x x'
   pub never : r ≢ Err fault.Disk
   pub refused : (f : DeviceFault) → r ≡ Err f → x' ≡ x
+  pub caused : IsCausedBy (unsettled_refusal x (entry.Turn t.turn)) (applied_as r)
 
 module _ (old new : WorldState) (n : ℕ) (x x' : DeviceState) (t : Admitted) (a : Answer) (r : Result ℕ DeviceFault) (is : IsLazy old new n x x' t a r) where
   steps_here : StepsTo x x' (command.Lazy n t) (fared_as x'.journal.stopped false r) (applied_as r)
@@ -208,9 +213,14 @@ module _ (old new : WorldState) (n : ℕ) (x x' : DeviceState) (t : Admitted) (a
       (λ d other. ap (λ (v : WorldState). device_in v d) is.back ∙ back_elsewhere old.devices n d None (Some x') (λ same. other (ap Some (sym same))))
       (λ refused. lazy_refused r refl (ap is_refusal (sym is.answer) ∙ refused))
 
+  lazy_caused : HasCause old (command.Lazy n t) (plain_answer a)
+  lazy_caused state merges =
+      subst (λ o. IsCausedBy o (plain_answer a)) (sym (device_is old (command.Lazy n t) refl state x (found_up old n x is.place) refl is.place))
+      (subst (IsCausedBy (unsettled_refusal x (entry.Turn t.turn))) (sym is.answer) is.caused)
+
   -- it is a step of each world
   pub lazy_does : DoesInside old new (command.Lazy n t) a
   lazy_does =
-      done_does old new (command.Lazy n t) a (ascends_by a r is.answer) calm lazy_keeps (λ s. refl)
+      done_does old new (command.Lazy n t) a (ascends_by a r is.answer) calm lazy_keeps lazy_caused (λ s. refl)
       (fared_as x'.journal.stopped false r) (λ s. shows_by old new (command.Lazy n t) s x'.journal.stopped r is.never)
       (λ p w s world. is.answer ∙ steps_here.answers p w (device_has p w old s n (Some x) world is.of.0 is.place).0 tt) lazy_world

@@ -20,6 +20,7 @@ use Rattle.re_terms.specs.declared.command.Command.{Command}
 use Rattle.re_terms.specs.declared.command.Command.TheVariants as command
 use Rattle.re_terms.specs.declared.program.Program.{Program}
 use Rattle.re_terms.specs.declared.replicated.RCell.TheVariants as cell
+use Rattle.re_world.specs.Causes.{HasCause}
 use Rattle.re_world.specs.FileSteps.{HasFileSteps, is_disk_refusal}
 use Rattle.re_world.specs.Images.{Restores}
 use Rattle.re_world.specs.Standing.{IsWorldOf}
@@ -110,6 +111,7 @@ pub record Keeps (old new : WorldState) (c : Command) (a : PlainAnswer) : Type 0
 -- all that a command does, over an outside that tells what is seen of it or doesn't
 pub record DoesCommand (tells : Bool) (old new : WorldState) (c : Command) (a : Answer) (before now : Seen) : Type 0 where
   pub keeps : Keeps old new c (plain_answer a)
+  pub caused : HasCause old c (plain_answer a)
   pub ascends : AscendsWhereSet a
   pub counts : CountsBy c (plain_answer a) before now
   pub left : tells ≡ true → now.left ≡ before.left

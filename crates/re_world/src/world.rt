@@ -20,6 +20,7 @@ ghost use Rattle.re_terms.specs.Worlds.{BadFile, Refused, plain_answer};
 ghost use Rattle.re_terms.specs.declared.command.Command.TheVariants as command;
 ghost use Rattle.re_world.specs.Images.{Restores};
 ghost use Rattle.re_device.specs.Device.{DeviceState};
+ghost use Rattle.re_world.specs.Causes.{HasCause};
 ghost use Rattle.re_world.specs.FileSteps.{HasFileSteps};
 ghost use Rattle.re_world.specs.Opening.{HasAllOpeningSteps, IsOpened, OpenBefore};
 ghost use Rattle.re_world.specs.Standing.{IsWorldOf};
@@ -126,6 +127,8 @@ impl World {
 
         // What stays: the program, all other devices, and after a refusal all, but for the device that stops where a file call failed.
         ensures keeps { Keeps self.old self.new c (plain_answer result) }
+        // A command is refused for what is in memory exactly where that refuses it, unless memory runs out.
+        ensures caused { HasCause self.old c (plain_answer result) }
         // The code 33 comes exactly where the count of the device's disk rose, and no other count changes.
         ensures counts { CountsBy c (plain_answer result) (O.seen out.old) (O.seen out.new) }
         // The calls on the device's files, in order, up to the first that failed, and how many the device has counted.

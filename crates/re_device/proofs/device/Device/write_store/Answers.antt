@@ -1,16 +1,17 @@
 -- What the commit leaves opens to the one or to the other.
-use Rattle.std.proofs.Common.{◌∙◌, ◌+◌, Bool, List, subst, Some, None}
+use Rattle.std.proofs.Common.{◌≡◌, ◌∙◌, ◌+◌, ℕ, Bool, List, ap, subst, Some, None}
 use Rattle.std.specs.Prelude.{OnOk}
+use Rattle.re_journal.specs.Journals.{calls_after}
 use Rattle.re_outside.specs.Moment.{Throughout}
 use Rattle.re_record.specs.Restoring.{after_all}
 use Rattle.re_record.specs.Spellings.{record_bytes}
 use Rattle.re_terms.specs.Shapes.{shape_of}
 use Rattle.re_terms.specs.declared.entry.Logged.{Logged}
 use Rattle.re_device.proofs.Results.{at_ok, ok_from}
-use Rattle.re_device.proofs.Settling.{behind_due, behind_none, each_opens, each_opens_behind, may_commit, may_commit_behind, none_due, reads_opens, reads_opens_behind, some_due, stands_behind, stands_more}
+use Rattle.re_device.proofs.Settling.{behind_due, behind_none, calls_due, calls_none, each_opens, each_opens_behind, may_commit, may_commit_behind, none_due, reads_opens, reads_opens_behind, some_due, stands_behind, stands_more}
 use Rattle.re_device.proofs.device.Device.write_store.Goals as goal
 use Rattle.re_compact.specs.Committing.{reads_open}
-use Rattle.re_device.specs.Committing.{next_snapshot, record_reads_open}
+use Rattle.re_device.specs.Committing.{next_snapshot, record_reads_open, settling_calls}
 use Rattle.re_device.specs.Device.{DeviceState}
 use Rattle.re_device.specs.Keeping.{memory_of, seen_of, settled_of}
 use Rattle.re_device.specs.Ready.{IsReady, MaySettle}
@@ -114,3 +115,21 @@ returns-in-None-clause-stands g c =
     stands_more d c.self.invariant entries may old st c.commit_record-in-None.new.journal new
     (at_ok _ c.commit_record-in-None.result x is (c.commit_record-in-None.ensures.stands st.snapshot st.bodies None (record_bytes (shape_of d.program).devices entries) tells) st.stands
     (may_commit d c.self.invariant entries may old st c.as_slice-record.result.now due (c.as_slice-record.ensures ∙ ready.record_is)))))
+
+pub returns-in_ok-commit_record-in-Some-clause-calls : goal.returns-in_ok-commit_record-in-Some-clause-calls
+returns-in_ok-commit_record-in-Some-clause-calls g c =
+    let d = c.self.inside in
+    subst (λ (v : DeviceState). (entries : List Logged) × IsReady v entries c.args.ready.now → c.commit_record.new.journal.calls ≡ calls_after (settling_calls v) v.journal.calls) c.self.view_is
+    (λ (entries, ready).
+    let due = some_due (seen_of d) entries c.args.ready.now c.in-Some.snapshot c.as_slice.result.now ready c.in-Some.is c.as_slice.ensures in
+    c.in_ok-commit_record-in-Some.ensures.journal.calls ∙ ap (λ (n : ℕ). calls_after n d.journal.calls) (calls_due (seen_of d) c.as_slice.result.now due))
+    c.requires
+
+pub returns-in-None-clause-calls : goal.returns-in-None-clause-calls
+returns-in-None-clause-calls g c =
+    let d = c.self.inside in
+    subst (λ (v : DeviceState). (entries : List Logged) × IsReady v entries c.args.ready.now → OnOk c.commit_record-in-None.result (c.commit_record-in-None.new.journal.calls ≡ calls_after (settling_calls v) v.journal.calls)) c.self.view_is
+    (λ (entries, ready). ok_from c.commit_record-in-None.result (c.commit_record-in-None.new.journal.calls ≡ calls_after (settling_calls (seen_of d)) d.journal.calls) (λ x is.
+    let due = none_due (seen_of d) entries c.args.ready.now ready c.in-None.is in
+    (at_ok _ c.commit_record-in-None.result x is c.commit_record-in-None.ensures.journal).calls ∙ ap (λ (n : ℕ). calls_after n d.journal.calls) (calls_none (seen_of d) due)))
+    c.requires

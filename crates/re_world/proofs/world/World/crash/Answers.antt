@@ -2,6 +2,7 @@
 use Rattle.std.proofs.Common.{◌∙◌, refl, sym, subst}
 use Rattle.re_terms.specs.declared.command.Answer.TheVariants as answer
 use Rattle.re_terms.specs.declared.command.Command.TheVariants as command
+use Rattle.re_world.proofs.Caused.{found_down}
 use Rattle.re_world.proofs.Inside.{down_does}
 use Rattle.re_world.proofs.InsideDone.{crash_does, none_lent}
 use Rattle.re_world.proofs.Lent.{no_some}
@@ -13,7 +14,7 @@ returns-in_default c =
     let old = c.args.self.now in
     let n = c.args.number in
     let none = sym c.lend.ensures.device ∙ no_some c.lend.result c.in_default.not-Some in
-    subst (λ v. DoesInside old v (command.Crash n) (answer.No 26)) (sym (none_lent old c.lend.new.self n none c.lend.ensures.rest)) (down_does old (command.Crash n) n c.requires none refl (λ u. refl) (λ p u s is. refl))
+    subst (λ v. DoesInside old v (command.Crash n) (answer.No 26)) (sym (none_lent old c.lend.new.self n none c.lend.ensures.rest)) (down_does old (command.Crash n) n c.requires none refl (found_down old n none) refl (λ u. refl) (λ p u s is. refl))
 
 pub returns : goal.returns
 returns c = crash_does c.args.self.now c.args.number c.requires c.lend.new.self _ (sym c.lend.ensures.device ∙ c.in-Some.is) c.lend.ensures.rest

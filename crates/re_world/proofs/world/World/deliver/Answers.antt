@@ -3,17 +3,19 @@ use Rattle.std.proofs.Common.{◌≡◌, ◌∙◌, ◌<◌, ◌++◌, ◌∷◌
 use Rattle.std.specs.Prelude.{◌^◌, map, slice_get}
 use Rattle.std.specs.Option.{option_copied}
 use Rattle.re_device.specs.Device.{current, logged, with_entry}
-use Rattle.re_device.specs.Stepping.{IsPacketOf}
+use Rattle.re_device.specs.Stepping.{IsPacketOf, entered_as}
 use Rattle.re_device.specs.declared.fault.Done.{Done}
 use Rattle.re_terms.specs.Admission.{device_count}
-use Rattle.re_terms.specs.Worlds.{Entered}
+use Rattle.re_terms.specs.Worlds.{Entered, Refused}
 use Rattle.re_terms.specs.declared.command.Answer.TheVariants as answer
 use Rattle.re_terms.specs.declared.command.Command.TheVariants as command
 use Rattle.re_terms.specs.declared.entry.Entry.TheVariants as entry
 use Rattle.re_terms.specs.declared.program.Program.{Program}
+use Rattle.re_device.specs.Causes.{IsCausedBy, entry_refusal}
+use Rattle.re_world.proofs.Caused.{caused_as, device_is, found_down, found_up, lacks_is}
 use Rattle.re_world.proofs.CommitKinds.{deliver_commit}
 use Rattle.re_world.proofs.Doing.{commit_does}
-use Rattle.re_world.proofs.Delivered.{all_at, kept_at, none_there, one_there, packet_of, packet_short, packet_state}
+use Rattle.re_world.proofs.Delivered.{all_at, kept_at, none_seen, none_there, one_below, one_seen, one_there, packet_of, packet_short, packet_state}
 use Rattle.re_world.proofs.Inside.{down_does, lacks_first, memory_does, refused_before}
 use Rattle.re_world.proofs.Lent.{back_all, back_others, back_packets, back_place, back_program, lent_none, no_some}
 use Rattle.re_outside.specs.Listed.{Listed}
@@ -41,6 +43,9 @@ at_place o b kept k found is = sym found ∙ ap option_copied is
 read_is : (state r : RState) → ◌≡◌ {A = Result RState ℕ} (Ok r) (Ok state) → state ≡ r
 read_is state r e = cc
 
+one_of : {X : Type 0} {x y : X} → Some x ≡ Some y → x ≡ y
+one_of e = cc
+
 never_refused : (r : RState) (fault : WireFault) (place : ℕ) → fault ≡ wire.At place → Fails {X = RState} fault (Ok r) → ⊥
 never_refused r fault place is fails = refuted (subst (λ f. Fails {X = RState} f (Ok r)) is fails)
   where
@@ -50,7 +55,8 @@ never_refused r fault place is fails = refuted (subst (λ f. Fails {X = RState} 
 pub returns-in_default : goal.returns-in_default
 returns-in_default g c =
     let v = c.args.self.now in
-    refused_before v (command.Deliver c.args.packet c.args.number) (answer.No 28) tt refl refl refl
+    refused_before v (command.Deliver c.args.packet c.args.number) (answer.No 28) tt refl refl
+    (caused_as v (command.Deliver c.args.packet c.args.number) (Refused 28) (λ state merges. lacks_is v (command.Deliver c.args.packet c.args.number) state (none_seen v c.self.inside.packets.items (packets_are v c.self.inside c.self.view_is) c.args.packet (sym c.get.ensures ∙ ap option_copied c.in_default.is)))) refl
     (λ p w s is. lacks_first p w (command.Deliver c.args.packet c.args.number) (none_there p w v s is c.self.inside.packets.items (packets_are v c.self.inside c.self.view_is) c.args.packet (sym c.get.ensures ∙ ap option_copied c.in_default.is)))
     g.O.Outside.tells (g.O.Outside.seen c.args.out.now)
 
@@ -77,7 +83,7 @@ returns-in_default-lend g c =
     let s = g.O.Outside.seen c.args.out.now in
     let place = sym c.lend.ensures.device ∙ no_some c.lend.result c.in_default-lend.not-Some in
     subst (λ u. DoesCommand g.O.Outside.tells v u (command.Deliver c.args.packet c.args.number) (answer.No 26) s s) (sym (lent_none v c.lend.new.self c.args.number c.lend.ensures.rest place))
-    (down_does v (command.Deliver c.args.packet c.args.number) c.args.number c.requires place refl (λ w. refl) (λ p w t is. one_there p w v t is c.self.inside.packets.items (packets_are v c.self.inside c.self.view_is) c.args.packet c.in-Some.bytes.now (at_place c.get.result c.in-Some.bytes c.self.inside.packets.items c.args.packet c.get.ensures c.in-Some.is)) g.O.Outside.tells s)
+    (down_does v (command.Deliver c.args.packet c.args.number) c.args.number c.requires place refl (found_down v c.args.number place) (one_seen v c.self.inside.packets.items (packets_are v c.self.inside c.self.view_is) c.args.packet c.in-Some.bytes.now (at_place c.get.result c.in-Some.bytes c.self.inside.packets.items c.args.packet c.get.ensures c.in-Some.is)) (λ w. refl) (λ p w t is. one_there p w v t is c.self.inside.packets.items (packets_are v c.self.inside c.self.view_is) c.args.packet c.in-Some.bytes.now (at_place c.get.result c.in-Some.bytes c.self.inside.packets.items c.args.packet c.get.ensures c.in-Some.is)) g.O.Outside.tells s)
 
 pub give_back-requires-clause-placed : goal.give_back-requires-clause-placed
 give_back-requires-clause-placed g c =
@@ -121,6 +127,19 @@ returns g c =
       enters = λ y. refl;
       calm = λ y. (refl, refl);
       leaves = c.take_merge-taken.ensures.leaves;
+      caused = λ state merges.
+          let program : c.self.inside.program ≡ v.program = ap (λ (u : WorldState). u.program) c.self.view_is in
+          let at = at_place c.get.result c.in-Some.bytes c.self.inside.packets.items c.args.packet c.get.ensures c.in-Some.is in
+          let kept = packets_are v c.self.inside c.self.view_is in
+          let of = merges (one_below v c.self.inside.packets.items kept c.args.packet c.in-Some.bytes.now at) in
+          let place = sym c.lend.ensures.device ∙ c.in-Some-lend.is in
+          let same : c.in-Ok.state ≡ state =
+              read_is c.in-Ok.state state
+              (c.in-Ok.ensures.only state (subst (λ q. FitsShape q state) (sym (c.self.invariant.shape ∙ ap shape_of program)) of.fits)
+              (c.as_slice.ensures ∙ one_of (sym (kept_at v c.self.inside.packets.items c.args.packet c.in-Some.bytes.now kept at) ∙ of.bytes) ∙ ap (λ (q : Shape). packet_bytes q.devices state) (sym (c.self.invariant.shape ∙ ap shape_of program)))) in
+          subst (λ o. IsCausedBy o (entered_as c.take_merge-taken.result))
+          (sym (device_is v (command.Deliver c.args.packet n) (one_seen v c.self.inside.packets.items kept c.args.packet c.in-Some.bytes.now at) state x (found_up v n x place) refl place))
+          (subst (λ (r : RState). IsCausedBy (entry_refusal x (entry.Merge r)) (entered_as c.take_merge-taken.result)) same c.take_merge-taken.ensures.caused);
       same = back_all v c.lend.new.self c.give_back.new.self n x' c.lend.ensures.rest c.give_back.ensures x (sym c.lend.ensures.device ∙ c.in-Some-lend.is);
       writes =
           let program : c.self.inside.program ≡ v.program = ap (λ (u : WorldState). u.program) c.self.view_is in

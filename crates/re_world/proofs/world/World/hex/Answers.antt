@@ -1,5 +1,5 @@
 -- The bytes of a packet are shown.
-use Rattle.std.proofs.Common.{◌∙◌, ℕ, Some, sym, ap}
+use Rattle.std.proofs.Common.{◌∙◌, ℕ, Some, refl, sym, ap}
 use Rattle.std.specs.Option.{option_copied}
 use Rattle.re_terms.specs.Listed.{Listed}
 use Rattle.re_terms.specs.declared.command.Command.TheVariants as command

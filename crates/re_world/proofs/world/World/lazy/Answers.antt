@@ -5,6 +5,7 @@ use Rattle.re_device.specs.Stepping.{applied_as}
 use Rattle.re_terms.specs.Admission.{IsAdmitted}
 use Rattle.re_terms.specs.declared.command.Answer.TheVariants as answer
 use Rattle.re_terms.specs.declared.command.Command.TheVariants as command
+use Rattle.re_world.proofs.Caused.{found_down}
 use Rattle.re_world.proofs.Inside.{down_does}
 use Rattle.re_world.proofs.InsideDone.{none_lent}
 use Rattle.re_world.proofs.Lent.{no_some}
@@ -19,7 +20,7 @@ returns-in_default g c =
     let n = c.args.number in
     let asked = command.Lazy n c.args.turn in
     let none = sym c.lend.ensures.device ∙ no_some c.lend.result c.in_default.not-Some in
-    subst (λ v. DoesInside old v asked (answer.No 26)) (sym (none_lent old c.lend.new.self n none c.lend.ensures.rest)) (down_does old asked n c.requires.0 none refl (λ u. refl) (λ p u s is. refl))
+    subst (λ v. DoesInside old v asked (answer.No 26)) (sym (none_lent old c.lend.new.self n none c.lend.ensures.rest)) (down_does old asked n c.requires.0 none refl (found_down old n none) refl (λ u. refl) (λ p u s is. refl))
 
 pub lazy-applied-requires : goal.lazy-applied-requires
 lazy-applied-requires g c = subst (λ q. IsAdmitted q c.args.turn.turn) (sym c.in-Some.ensures.placed.program) c.requires.1
@@ -52,6 +53,7 @@ returns-in-Ok g c =
       own = keeps_own x x' _ r c.lazy-applied.ensures.memory c.lazy-applied.ensures.unchanged;
       never = c.lazy-applied.ensures.never;
       refused = c.lazy-applied.ensures.unchanged;
+      caused = c.lazy-applied.ensures.caused;
     })
 
 pub returns-in-Err : goal.returns-in-Err
@@ -74,4 +76,5 @@ returns-in-Err g c =
       own = keeps_own x x' _ r c.lazy-applied.ensures.memory c.lazy-applied.ensures.unchanged;
       never = c.lazy-applied.ensures.never;
       refused = c.lazy-applied.ensures.unchanged;
+      caused = c.lazy-applied.ensures.caused;
     })

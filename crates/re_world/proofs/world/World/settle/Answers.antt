@@ -4,6 +4,9 @@ use Rattle.re_device.specs.Device.{current}
 use Rattle.re_terms.specs.Worlds.{Settled}
 use Rattle.re_terms.specs.declared.command.Answer.TheVariants as answer
 use Rattle.re_terms.specs.declared.command.Command.TheVariants as command
+use Rattle.re_device.specs.Causes.{IsCausedBy}
+use Rattle.re_device.specs.Stepping.{settled_as}
+use Rattle.re_world.proofs.Caused.{device_is, found_down, found_up}
 use Rattle.re_world.proofs.CommitKinds.{settle_commit}
 use Rattle.re_world.proofs.Doing.{commit_does}
 use Rattle.re_world.proofs.Inside.{down_does}
@@ -18,7 +21,7 @@ returns-in_default g c =
     let s = g.O.Outside.seen c.args.out.now in
     let place = sym c.lend.ensures.device ∙ no_some c.lend.result c.in_default.not-Some in
     subst (λ u. DoesCommand g.O.Outside.tells v u (command.Settle c.args.number) (answer.No 26) s s) (sym (lent_none v c.lend.new.self c.args.number c.lend.ensures.rest place))
-    (down_does v (command.Settle c.args.number) c.args.number c.requires place refl (λ w. refl) (λ p w t is. refl) g.O.Outside.tells s)
+    (down_does v (command.Settle c.args.number) c.args.number c.requires place refl (found_down v c.args.number place) refl (λ w. refl) (λ p w t is. refl) g.O.Outside.tells s)
 
 pub give_back-requires-clause-placed : goal.give_back-requires-clause-placed
 give_back-requires-clause-placed g c =
@@ -59,6 +62,7 @@ returns g c =
       enters = λ y. refl;
       calm = λ y. (refl, refl);
       leaves = c.settle_entries-taken.ensures.leaves;
+      caused = λ state merges. subst (λ o. IsCausedBy o (settled_as c.settle_entries-taken.result)) (sym (device_is v (command.Settle n) refl state x (found_up v n x (sym c.lend.ensures.device ∙ c.in-Some.is)) refl (sym c.lend.ensures.device ∙ c.in-Some.is))) c.settle_entries-taken.ensures.caused;
       same = back_all v c.lend.new.self c.give_back.new.self n x' c.lend.ensures.rest c.give_back.ensures x (sym c.lend.ensures.device ∙ c.in-Some.is);
       writes = refl;
       files = λ made. made;

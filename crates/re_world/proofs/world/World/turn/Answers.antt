@@ -7,6 +7,9 @@ use Rattle.re_terms.specs.Worlds.{Entered}
 use Rattle.re_terms.specs.declared.command.Answer.TheVariants as answer
 use Rattle.re_terms.specs.declared.command.Command.TheVariants as command
 use Rattle.re_terms.specs.declared.entry.Entry.TheVariants as entry
+use Rattle.re_device.specs.Causes.{IsCausedBy}
+use Rattle.re_device.specs.Stepping.{entered_as}
+use Rattle.re_world.proofs.Caused.{device_is, found_down, found_up}
 use Rattle.re_world.proofs.CommitKinds.{turn_commit}
 use Rattle.re_world.proofs.Doing.{commit_does}
 use Rattle.re_world.proofs.Inside.{down_does}
@@ -21,7 +24,7 @@ returns-in_default g c =
     let s = g.O.Outside.seen c.args.out.now in
     let place = sym c.lend.ensures.device ∙ no_some c.lend.result c.in_default.not-Some in
     subst (λ u. DoesCommand g.O.Outside.tells v u (command.Turn c.args.number c.args.turn) (answer.No 26) s s) (sym (lent_none v c.lend.new.self c.args.number c.lend.ensures.rest place))
-    (down_does v (command.Turn c.args.number c.args.turn) c.args.number c.requires.0 place refl (λ w. refl) (λ p w t is. refl) g.O.Outside.tells s)
+    (down_does v (command.Turn c.args.number c.args.turn) c.args.number c.requires.0 place refl (found_down v c.args.number place) refl (λ w. refl) (λ p w t is. refl) g.O.Outside.tells s)
 
 pub take_turn-taken-requires : goal.take_turn-taken-requires
 take_turn-taken-requires g c =
@@ -67,6 +70,7 @@ returns g c =
       enters = λ y. refl;
       calm = λ y. (refl, refl);
       leaves = c.take_turn-taken.ensures.leaves;
+      caused = λ state merges. subst (λ o. IsCausedBy o (entered_as c.take_turn-taken.result)) (sym (device_is v (command.Turn n c.args.turn) refl state x (found_up v n x (sym c.lend.ensures.device ∙ c.in-Some.is)) refl (sym c.lend.ensures.device ∙ c.in-Some.is))) c.take_turn-taken.ensures.caused;
       same = back_all v c.lend.new.self c.give_back.new.self n x' c.lend.ensures.rest c.give_back.ensures x (sym c.lend.ensures.device ∙ c.in-Some.is);
       writes = refl;
       files = λ made. made;
