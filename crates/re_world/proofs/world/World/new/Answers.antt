@@ -3,7 +3,7 @@ use Rattle.std.proofs.Common.{◌≡◌, ◌∙◌, inl, ℕ, ◌<◌, List, Opt
 use Rattle.std.specs.Prelude.{option_and_then}
 use Rattle.re_device.specs.Device.{DeviceState}
 use Rattle.re_compact.specs.declared.fault.OpenFault.TheVariants.{BadStore, Disk, Memory, OtherProgram}
-use Rattle.re_outside.proofs.Moments.{weaken}
+use Rattle.re_outside.proofs.Moments.{goes_nothing, weaken}
 use Rattle.re_outside.specs.Listed.{Listed as Bytes}
 use Rattle.re_outside.specs.Moment.{Throughout}
 use Rattle.re_outside.specs.Port.{past_in}
@@ -16,7 +16,7 @@ use Rattle.re_terms.specs.Updates.{Update}
 use Rattle.re_terms.specs.declared.program.Program.{Program}
 use Rattle.re_world.proofs.Beginning.{is_world}
 use Rattle.re_world.proofs.Opened.{calm_unless, for_disk, handed_on, is_refused, none_opened, open_before, same_refusal}
-use Rattle.re_world.proofs.OpeningSteps.{all_handed, no_steps}
+use Rattle.re_world.proofs.OpeningSteps.{all_handed}
 use Rattle.re_world.proofs.Started.{start_restores}
 use Rattle.re_world.specs.Images.{Restores}
 use Rattle.re_world.specs.Opening.{KeepsOpening}
@@ -99,7 +99,7 @@ pub returns-clause-goes_on : goal.returns-clause-goes_on
 returns-clause-goes_on g c tells = (c.open_all.ensures.moments tells).goes_on
 
 pub returns-in_default-clause-steps : goal.returns-in_default-clause-steps
-returns-in_default-clause-steps g c tells = inl (no_steps (past_in 0 (g.O.Outside.seen c.args.out.now)))
+returns-in_default-clause-steps g c tells = inl (goes_nothing (past_in 0 (g.O.Outside.seen c.args.out.now)))
 
 pub returns-in_err-devices-clause-steps : goal.returns-in_err-devices-clause-steps
 returns-in_err-devices-clause-steps g c tells =
