@@ -25,7 +25,7 @@ use Rattle.re_device.specs.Device.{DeviceMemory, DeviceState}
 use Rattle.re_device.specs.Standing.{StandsSettled}
 use Rattle.re_world.proofs.Kept.{kept_on, stands_kept}
 use Rattle.re_world.specs.State.{AllPlaced, IsPlaced}
-use Rattle.re_world.specs.Opening.{AreOpened, HasOpened, HasOpeningCause, IsOpened, KeepsOpening, OpenBefore}
+use Rattle.re_world.specs.Opening.{AreOpened, EachOpened, HasOpened, HasOpeningCause, IsOpened, KeepsOpening, OpenBefore}
 
 -- while the files of one device move as in an opening, those of all devices may be what they might have been at the start, or open to it
 module _ (p : Program) (n : ℕ) (start old now : Past) (same : (f : ℕ) → IsKept n f start old) (before : KeepsOpening p start old) (goes : IsBefore (as_device n old) (as_device n now)) (still : StillOpens p n (as_device n old) (as_device n now)) where
@@ -187,6 +187,19 @@ placed_more p devices device all is d = elim (eqb_tells d (length devices)) [
       | inl is ↦ omega (arith, is)
       | inr not_above ↦ absurd (other (omega (arith, above, not_above)))
     ]
+
+-- a device is opened behind others
+pub each_more : (p : Program) (devices : List (Option DeviceState)) (device : DeviceState) → EachOpened p devices → IsOpened p (length devices) device → EachOpened p (devices ++ Some device ∷ [])
+each_more p devices device each is d below = elim (eqb_tells d (length devices)) [
+  | inl same ↦ (device, slice_get-last devices (Some device) d same.1, subst (λ k. IsOpened p k device) (sym same.1) is)
+  | inr other ↦ elim (cases_lt d (length devices)) [
+    | inl less ↦ let found = each d less in (found.0, slice_get-left devices (Some device) d less ∙ found.1, found.2)
+    | inr above ↦
+        let far = other.1 in
+        let bound = subst (λ k. d < k) (length-append devices (Some device ∷ [])) below in
+        absurd (far (omega (arith, bound, above)))
+  ]
+]
 
 -- at the start no device is opened
 pub none_opened : (p : Program) (s : Seen) → AreOpened p [] s s

@@ -2,7 +2,7 @@
 use Rattle.std.proofs.Common.{◌≡◌, ◌⊎◌, inl, inr, ◌+◌, ◌++◌, [], ℕ, suc, List, Result, Ok, Err, length, refl, sym, ap, subst, ◌∙◌, arith}
 use Rattle.std.specs.Prelude.{true, ◌&&◌, if◌then◌else◌}
 use Rattle.std.specs.Result.{IsErrAnd}
-use Rattle.std.proofs.lemmas.List.{append_assoc, append-nil}
+use Rattle.std.proofs.lemmas.List.{append_assoc}
 use Rattle.re_compact.specs.Finding.{open_steps}
 use Rattle.re_compact.specs.declared.fault.OpenFault.{OpenFault}
 use Rattle.re_compact.specs.declared.fault.OpenFault.TheVariants.{BadStore, Disk, Memory, OtherProgram}
@@ -41,10 +41,6 @@ pub all_handed : (T : Type 0) {U : Type 0} (p : Program) (r : Result U (ℕ × O
 all_handed T {U} p (Ok x) e old now is h = absurd is
 all_handed T {U} p (Err (d, f)) e old now is h =
     next_handed T U p d f (as_device d (after_opening p d old)) (as_device d now) (subst (λ (x : ℕ × OpenFault). HasAllOpeningSteps {T = T} p old now (Err x)) (sym is) h)
-
--- no step more is the moment itself
-pub no_steps : (old : Past) → old ≡ with_steps old []
-no_steps old = λ i. record { device = old.device; start = old.start; trace = sym (append-nil old.trace) i }
 
 -- a device is opened by the same steps where its files read the same
 pub same_steps : (p : Program) (n : ℕ) (old mid : Past) → ((f : ℕ) → content_at mid n f ≡ content_at old n f) → opening_steps p n (as_device n mid) ≡ opening_steps p n (as_device n old)

@@ -47,6 +47,10 @@ pub record AreOpened (p : Program) (devices : List (Option DeviceState)) (old no
   pub others : (d f : ℕ) → length devices ≤ d → IsKept d f (past_in 0 old) (past_in 0 now)
   pub moments : Throughout (past_in 0 old) (past_in 0 now) (KeepsOpening p (past_in 0 old))
 
+-- each of these devices is in memory as it was opened
+abbrev pub EachOpened : Program → List (Option DeviceState) → Type 0
+EachOpened p devices = (d : ℕ) → d < length devices → (x : DeviceState) × (slice_get devices d ≡ Some (Some x)) × IsOpened p d x
+
 -- each device of a lesser number opens, as its files read
 abbrev pub OpenBefore : Program → ℕ → Seen → Type 0
 OpenBefore p number s = (d : ℕ) → d < number → (o : Opened) × OpensTo p d (content_in s d 0) (content_in s d 1) o

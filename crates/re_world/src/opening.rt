@@ -14,7 +14,7 @@ ghost use Rattle.re_device.specs.Standing.{StandsSettled};
 ghost use Rattle.re_restore.specs.Opening.{HasRestoreCause, StillOpens};
 ghost use Rattle.re_outside.specs.Port.{disk_faults, other_faults, past_in};
 ghost use Rattle.re_record.specs.Restoring.{Opened};
-ghost use Rattle.re_world.specs.Opening.{AreOpened, HasAllOpeningSteps, HasNextSteps, HasOpeningCause, HasOpeningSteps, IsOpened, IsOpeningAnswer, KeepsOpening, OpenBefore};
+ghost use Rattle.re_world.specs.Opening.{AreOpened, EachOpened, HasAllOpeningSteps, HasNextSteps, HasOpeningCause, HasOpeningSteps, IsOpened, IsOpeningAnswer, KeepsOpening, OpenBefore};
 ghost use Rattle.re_world.specs.State.{AllPlaced};
 
 use re_compact::OpenFault;
@@ -117,6 +117,7 @@ fn open_next<O: Outside>(
     requires device { length devices.old.items < device_count p.now.decls.items }
     ensures count { OnOk result (length devices.new.items ≡ length devices.old.items + 1) }
     ensures placed { OnOk result (AllPlaced p.now devices.old.items → AllPlaced p.now devices.new.items) }
+    ensures each { OnOk result (EachOpened p.now devices.old.items → EachOpened p.now devices.new.items) }
     ensures opened { (start : Seen) → O.tells ≡ true → OnOk result (AreOpened p.now devices.old.items start (O.seen out.old) → AreOpened p.now devices.new.items start (O.seen out.new)) }
     ensures moments { (start : Seen) → O.tells ≡ true → AreOpened p.now devices.old.items start (O.seen out.old) → Throughout (past_in 0 start) (past_in 0 (O.seen out.new)) (KeepsOpening p.now (past_in 0 start)) }
     ensures bad { (file at : ℕ) → O.tells ≡ true → result ≡ Err (BadStore file at) → HasStore p.now (length devices.old.items) (content_in (O.seen out.old) (length devices.old.items) 0) (content_in (O.seen out.old) (length devices.old.items) 1) (stores.Bad file at) }
@@ -145,6 +146,7 @@ pub fn open_all<O: Outside>(
     requires text { length (program_text p.now) ≤ 65536 }
     ensures count { IfOk result (λ devices. length devices.items ≡ device_count p.now.decls.items) }
     ensures placed { IfOk result (λ devices. AllPlaced p.now devices.items) }
+    ensures each { IfOk result (λ devices. EachOpened p.now devices.items) }
     ensures opened { O.tells ≡ true → IfOk result (λ devices. AreOpened p.now devices.items (O.seen out.old) (O.seen out.new)) }
     ensures moments { O.tells ≡ true → Throughout (past_in 0 (O.seen out.old)) (past_in 0 (O.seen out.new)) (KeepsOpening p.now (past_in 0 (O.seen out.old))) }
     // A store is refused for what the files hold, as they read at the call, and a disk for its own calls alone.

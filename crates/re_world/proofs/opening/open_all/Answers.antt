@@ -2,14 +2,15 @@
 use Rattle.std.proofs.Common.{◌≡◌, ◌∙◌, ◌+◌, ℕ, Err, List, Option, length, refl, sym, ap, subst, arith}
 use Rattle.re_compact.specs.declared.fault.OpenFault.TheVariants.{BadStore, OtherProgram}
 use Rattle.re_device.specs.Device.{DeviceState}
+use Rattle.re_outside.proofs.Moments.{goes_nothing}
 use Rattle.re_outside.specs.Port.{disk_faults, other_faults, past_in}
 use Rattle.re_outside.specs.Trace.{as_device, with_steps}
 use Rattle.re_record.specs.Stores as stores
 use Rattle.re_restore.specs.Opening.{HasRestoreCause}
 use Rattle.re_terms.specs.Listed.{Listed}
 use Rattle.re_world.proofs.Opened.{all_faults, caused, held_before, none_opened, open_before, same_refusal}
-use Rattle.re_world.proofs.OpeningSteps.{next_handed, no_steps, made, steps_more}
-use Rattle.re_world.specs.Opening.{AreOpened, HasNextSteps, opening_steps}
+use Rattle.re_world.proofs.OpeningSteps.{made, next_handed, steps_more}
+use Rattle.re_world.specs.Opening.{AreOpened, EachOpened, HasNextSteps, opening_steps}
 use Rattle.re_world.specs.State.{AllPlaced}
 use Rattle.re_world.proofs.opening.open_all.Goals as goal
 
@@ -20,10 +21,11 @@ loop-number-init g c =
     record {
       count = ap (λ (l : List (Option DeviceState)). length l) none;
       placed = subst (AllPlaced c.args.p.now) (sym none) (λ d. tt);
+      each = subst (EachOpened c.args.p.now) (sym none) (λ d below. absurd (omega (arith, below)));
       faults = refl;
       left = λ tells. refl;
       opened = λ tells. subst (λ (l : List (Option DeviceState)). AreOpened c.args.p.now l s s) (sym none) (none_opened c.args.p.now s);
-      moment = λ tells. no_steps (past_in 0 s);
+      moment = λ tells. goes_nothing (past_in 0 s);
     }
 
 pub returns-in-Err-clause-moments : goal.returns-in-Err-clause-moments
@@ -33,6 +35,7 @@ pub loop-number-preserved : goal.loop-number-preserved
 loop-number-preserved g c = record {
   count = c.in_default.ensures.count ∙ ap (λ (n : ℕ). n + 1) c.loop-number.invariant.count;
   placed = c.in_default.ensures.placed c.loop-number.invariant.placed;
+  each = c.in_default.ensures.each c.loop-number.invariant.each;
   faults = all_faults (length c.loop-number.devices.items) (g.O.Outside.seen c.loop-number.out) (g.O.Outside.seen c.open_next.new.out) c.in_default.ensures.cause c.open_next.ensures.others ∙ c.loop-number.invariant.faults;
   left = λ tells. c.open_next.ensures.left tells ∙ c.loop-number.invariant.left tells;
   opened = λ tells. c.in_default.ensures.opened (g.O.Outside.seen c.args.out.now) tells (c.loop-number.invariant.opened tells);

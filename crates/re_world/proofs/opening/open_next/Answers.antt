@@ -8,9 +8,9 @@ use Rattle.re_record.specs.Stores as stores
 use Rattle.re_record.specs.Stores.{HasStore}
 use Rattle.re_restore.specs.Opening.{HasRestoreCause}
 use Rattle.re_terms.specs.Listed.{Listed}
-use Rattle.re_world.proofs.Opened.{cause_handed, handed_on, moments_by, opened_by, placed_more, pushed_items}
+use Rattle.re_world.proofs.Opened.{cause_handed, each_more, handed_on, moments_by, opened_by, placed_more, pushed_items}
 use Rattle.re_world.proofs.OpeningSteps.{steps_handed}
-use Rattle.re_world.specs.Opening.{AreOpened, HasNextSteps, HasOpeningSteps, IsOpened}
+use Rattle.re_world.specs.Opening.{AreOpened, EachOpened, HasNextSteps, HasOpeningSteps, IsOpened}
 use Rattle.re_world.specs.State.{AllPlaced}
 use Rattle.re_world.proofs.opening.open_next.Goals as goal
 
@@ -26,6 +26,13 @@ returns-clause-placed g c = λ all.
     let items = pushed_items c.args.devices.now c.reserve.new.self c.push.new.self (Some c.in_ok-device.device) c.push.result c.unwrap.result c.unwrap.ensures c.push.ensures.ok reserved in
     subst (AllPlaced c.args.p.now) (sym items)
     (placed_more c.args.p.now c.args.devices.now.items c.in_ok-device.device all (subst (λ (k : ℕ). IsOpened c.args.p.now k c.in_ok-device.device) c.len-number.ensures c.in_ok-device.ensures.opened))
+
+pub returns-clause-each : goal.returns-clause-each
+returns-clause-each g c = λ each.
+    let reserved = ap (λ (l : Listed (Option DeviceState)). l.items) c.in-Ok.ensures.ok in
+    let items = pushed_items c.args.devices.now c.reserve.new.self c.push.new.self (Some c.in_ok-device.device) c.push.result c.unwrap.result c.unwrap.ensures c.push.ensures.ok reserved in
+    subst (EachOpened c.args.p.now) (sym items)
+    (each_more c.args.p.now c.args.devices.now.items c.in_ok-device.device each (subst (λ (k : ℕ). IsOpened c.args.p.now k c.in_ok-device.device) c.len-number.ensures c.in_ok-device.ensures.opened))
 
 pub returns-clause-opened : goal.returns-clause-opened
 returns-clause-opened g c = λ start tells are.

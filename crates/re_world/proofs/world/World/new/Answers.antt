@@ -1,7 +1,9 @@
 -- What was opened is the world of the start, and a stop within the opening leaves what restores to it.
-use Rattle.std.proofs.Common.{◌≡◌, ◌∙◌, ℕ, List, None, Result, Err, map, refl, sym, ap, arith}
+use Rattle.std.proofs.Common.{◌≡◌, ◌∙◌, inl, ℕ, ◌<◌, List, Option, None, Result, Err, map, refl, sym, ap, subst, arith}
+use Rattle.std.specs.Prelude.{option_and_then}
+use Rattle.re_device.specs.Device.{DeviceState}
 use Rattle.re_compact.specs.declared.fault.OpenFault.TheVariants.{BadStore, Disk, Memory, OtherProgram}
-use Rattle.re_outside.proofs.Moments.{weaken}
+use Rattle.re_outside.proofs.Moments.{goes_nothing, weaken}
 use Rattle.re_outside.specs.Listed.{Listed as Bytes}
 use Rattle.re_outside.specs.Moment.{Throughout}
 use Rattle.re_outside.specs.Port.{past_in}
@@ -13,7 +15,8 @@ use Rattle.re_terms.specs.Runs.{PlainState}
 use Rattle.re_terms.specs.Updates.{Update}
 use Rattle.re_terms.specs.declared.program.Program.{Program}
 use Rattle.re_world.proofs.Beginning.{is_world}
-use Rattle.re_world.proofs.Opened.{calm_unless, for_disk, handed_on, is_refused, same_refusal}
+use Rattle.re_world.proofs.Opened.{calm_unless, for_disk, handed_on, is_refused, none_opened, open_before, same_refusal}
+use Rattle.re_world.proofs.OpeningSteps.{all_handed}
 use Rattle.re_world.proofs.Started.{start_restores}
 use Rattle.re_world.specs.Images.{Restores}
 use Rattle.re_world.specs.Opening.{KeepsOpening}
@@ -35,7 +38,7 @@ returns-in_err-devices-clause-restores g c = λ base base_number log tells start
 
 pub returns-in_default-clause-restores : goal.returns-in_default-clause-restores
 returns-in_default-clause-restores g c = λ base base_number log tells starts.
-    restores_throughout c.args.p base base_number log (past_in 0 (g.O.Outside.seen c.args.out.now)) (past_in 0 (g.O.Outside.seen c.open_all.new.out)) c.requires.program starts (c.open_all.ensures.moments tells)
+    restores_throughout c.args.p base base_number log (past_in 0 (g.O.Outside.seen c.args.out.now)) (past_in 0 (g.O.Outside.seen c.args.out.now)) c.requires.program starts (none_opened c.args.p (g.O.Outside.seen c.args.out.now)).moments
 
 pub returns-clause-restores : goal.returns-clause-restores
 returns-clause-restores g c = λ base base_number log tells starts.
@@ -79,7 +82,7 @@ pub returns-in_err-devices-clause-goes_on : goal.returns-in_err-devices-clause-g
 returns-in_err-devices-clause-goes_on g c tells = (c.open_all.ensures.moments tells).goes_on
 
 pub returns-in_default-clause-calm : goal.returns-in_default-clause-calm
-returns-in_default-clause-calm g c other = c.in_ok-devices.ensures.cause
+returns-in_default-clause-calm g c other = refl
 
 pub returns-in_default-clause-first : goal.returns-in_default-clause-first
 returns-in_default-clause-first g c d fault tells refused before below =
@@ -87,10 +90,26 @@ returns-in_default-clause-first g c d fault tells refused before below =
     absurd (omega (arith, none, below))
 
 pub returns-in_default-clause-goes_on : goal.returns-in_default-clause-goes_on
-returns-in_default-clause-goes_on g c tells = (c.open_all.ensures.moments tells).goes_on
+returns-in_default-clause-goes_on g c tells = (none_opened c.args.p (g.O.Outside.seen c.args.out.now)).moments.goes_on
 
 pub returns-clause-calm : goal.returns-clause-calm
 returns-clause-calm g c other = c.in_ok-devices.ensures.cause
 
 pub returns-clause-goes_on : goal.returns-clause-goes_on
 returns-clause-goes_on g c tells = (c.open_all.ensures.moments tells).goes_on
+
+pub returns-in_default-clause-steps : goal.returns-in_default-clause-steps
+returns-in_default-clause-steps g c tells = inl (goes_nothing (past_in 0 (g.O.Outside.seen c.args.out.now)))
+
+pub returns-in_err-devices-clause-steps : goal.returns-in_err-devices-clause-steps
+returns-in_err-devices-clause-steps g c tells =
+    all_handed (Listed (Option DeviceState)) c.args.p c.from_residual.result c.in_err-devices.field-0.0 (past_in 0 (g.O.Outside.seen c.args.out.now)) (past_in 0 (g.O.Outside.seen c.open_all.new.out)) c.from_residual.ensures.1 (c.in_err-devices.ensures.steps tells)
+
+pub returns-clause-all : goal.returns-clause-all
+returns-clause-all g c = λ tells.
+    open_before c.args.p c.in_ok-devices.devices.items (g.O.Outside.seen c.args.out.now) (g.O.Outside.seen c.open_all.new.out) (c.in_ok-devices.ensures.opened tells) _ c.in_ok-devices.ensures.count
+
+pub returns-clause-opened : goal.returns-clause-opened
+returns-clause-opened g c = λ d below.
+    let found = c.in_ok-devices.ensures.each d (subst (λ n. d < n) (sym c.in_ok-devices.ensures.count) below) in
+    (found.0, ap (λ (o : Option (Option DeviceState)). option_and_then (λ (y : Option DeviceState). y) o) found.1, found.2)

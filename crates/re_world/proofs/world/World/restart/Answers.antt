@@ -9,16 +9,17 @@ use Rattle.re_device.specs.Device.{DeviceState}
 use Rattle.re_outside.specs.Outside.{Seen, content_in}
 use Rattle.re_record.specs.Stores as stores
 use Rattle.re_record.specs.Stores.{HasStore}
-use Rattle.re_terms.specs.Worlds.{BadFile, PlainAnswer, Refused}
+use Rattle.re_terms.specs.Worlds.{BadFile, PlainAnswer, Refused, Up, plain_answer}
 use Rattle.re_record.specs.Restoring.{Opened}
 use Rattle.re_terms.specs.Admission.{device_count}
 use Rattle.re_terms.specs.declared.command.Answer.TheVariants as answer
 use Rattle.re_terms.specs.declared.command.Command.TheVariants as command
 use Rattle.re_terms.specs.declared.program.Program.{Program}
 use Rattle.re_world.proofs.Lent.{place_elsewhere, place_here, placed_in}
-use Rattle.re_world.proofs.Restarting.{OpeningFacts, opened_does, unopened_does, up_does}
+use Rattle.re_world.proofs.Restarting.{OpeningFacts, opened_does, opened_number, refused_by, unopened_does, up_does}
 use Rattle.re_world.specs.State.{WorldState, device_in, seen_of}
-use Rattle.re_world.specs.Stepping.{DoesCommand, unopened_as}
+use Rattle.re_world.specs.FileSteps.{unopened_as}
+use Rattle.re_world.specs.Stepping.{DoesCommand, IsRestartAnswer}
 use Rattle.re_world.proofs.world.World.restart.Goals as goal
 
 -- a device that is there
@@ -90,7 +91,7 @@ returns-in-Ok-clause-does g c =
     subst (λ u. DoesCommand g.O.Outside.tells u new (command.Restart n) (answer.Up c.number-entries.result) before now) c.self.view_is
     (opened_does g.O.Outside.tells v n before now facts x new c.number-entries.result c.number-entries.ensures c.in-Ok.ensures.opened c.in-Ok.ensures.cause
     (ap (λ (u : WorldState). u.program) back) (ap (λ (u : WorldState). u.packets) back) (ap (λ (u : WorldState). device_in u n) back ∙ place_here v.devices n (Some x) there) (λ e other. ap (λ (u : WorldState). device_in u e) back ∙ place_elsewhere v.devices n e (Some x) other)
-    c.in-Ok.ensures.settled c.in-Ok.ensures.stands (λ told f. g.met.O.Outside.reads_left c.open_outside.new.out n f (g.met.O.Outside.tells_always c.open_outside.new.out ∙ told)))
+    c.in-Ok.ensures.settled c.in-Ok.ensures.stands (λ told f. g.met.O.Outside.reads_left c.open_outside.new.out n f (g.met.O.Outside.tells_always c.open_outside.new.out ∙ told)) c.in-Ok.ensures.steps)
 
 pub returns-in-Err-clause-does : goal.returns-in-Err-clause-does
 returns-in-Err-clause-does g c =
@@ -110,7 +111,7 @@ returns-in-Err-clause-does g c =
     } in
     subst (λ u. DoesCommand g.O.Outside.tells u u (command.Restart n) c.unopened.result before now) c.self.view_is
     (unopened_does g.O.Outside.tells v n before now facts c.in-Err.fault c.unopened.result c.unopened.ensures.answer c.unopened.ensures.ascends c.in-Err.ensures.cause
-    (λ told file at same. c.in-Err.ensures.bad file at told (ap Err same)) (λ told same. c.in-Err.ensures.other told (ap Err same)))
+    (λ told file at same. c.in-Err.ensures.bad file at told (ap Err same)) (λ told same. c.in-Err.ensures.other told (ap Err same)) c.in-Err.ensures.steps)
 
 pub returns-in-Err-clause-bad : goal.returns-in-Err-clause-bad
 returns-in-Err-clause-bad g c = λ file at told e.
@@ -121,3 +122,26 @@ pub returns-in-Err-clause-other : goal.returns-in-Err-clause-other
 returns-in-Err-clause-other g c = λ told e.
     subst (λ (u : WorldState). HasStore u.program c.args.number (content_in (g.O.Outside.seen c.args.out.now) c.args.number 0) (content_in (g.O.Outside.seen c.args.out.now) c.args.number 1) stores.OtherProgram) c.self.view_is
     (c.in-Err.ensures.other told (ap Err (other_is c.in-Err.fault (sym c.unopened.ensures.answer ∙ e))))
+
+pub returns-then-is_some-clause-decided : goal.returns-then-is_some-clause-decided
+returns-then-is_some-clause-decided g c stored told place has =
+    let found = some_there c.device.result (sym c.if-is_some.true ∙ c.is_some.ensures) in
+    let both = sym place ∙ sym c.device.ensures ∙ ap option_copied found.1 in
+    absurd (cc)
+
+pub returns-in-Ok-clause-decided : goal.returns-in-Ok-clause-decided
+returns-in-Ok-clause-decided g c stored told place has =
+    let n = c.args.number in
+    let s = g.O.Outside.seen c.args.out.now in
+    subst (λ (u : WorldState). IsRestartAnswer u.program n stored (Up c.number-entries.result)) c.self.view_is
+    (c.in-Ok.device.memory.settled,
+    c.in-Ok.ensures.decided stored told (subst (λ (u : WorldState). HasStore u.program n (content_in s n 0) (content_in s n 1) stored) (sym c.self.view_is) has),
+    opened_number c.self.inside.program n c.in-Ok.device c.number-entries.result c.in-Ok.ensures.opened c.number-entries.ensures)
+
+pub returns-in-Err-clause-decided : goal.returns-in-Err-clause-decided
+returns-in-Err-clause-decided g c stored told place has =
+    let n = c.args.number in
+    let s = g.O.Outside.seen c.args.out.now in
+    subst (λ (u : WorldState). IsRestartAnswer u.program n stored (plain_answer c.unopened.result)) c.self.view_is
+    (subst (IsRestartAnswer c.self.inside.program n stored) (sym c.unopened.ensures.answer)
+    (refused_by c.self.inside.program n stored c.in-Err.fault (c.in-Err.ensures.decided stored told (subst (λ (u : WorldState). HasStore u.program n (content_in s n 0) (content_in s n 1) stored) (sym c.self.view_is) has))))
