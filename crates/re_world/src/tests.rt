@@ -347,22 +347,30 @@ fn calls_are_numbered_from_the_opening(rt: HostRuntime) -> Result<(), Fail> {
 }
 
 /// A device over blank files is crashed, a byte of its first file is changed, and it is restarted.
-fn restarted(
-    rt: &impl Abort,
-    alloc: Global,
-    at: u64,
-    byte: u8,
-    wanted: &[u8],
-) -> Result<(), Fail> {
+fn restarted(rt: &impl Abort, alloc: Global, at: u64, byte: u8, wanted: &[u8]) -> Result<(), Fail> {
     let program = program(alloc, b"device a; var x: int = 0;")?;
     assert!(rt; print_program(alloc, &program)?.len() <= 65_536);
     let mut out = outside(alloc, Seq::new(alloc))?;
     let Ok(mut world) = World::new(alloc, &mut out, program.copy(alloc)?) else {
         panic!(rt; "the devices aren't opened");
     };
-    told(rt, alloc, &program, &mut world, &mut out, &[(b"crash a", b"down")])?;
+    told(
+        rt,
+        alloc,
+        &program,
+        &mut world,
+        &mut out,
+        &[(b"crash a", b"down")],
+    )?;
     assert!(rt; out.write(0, 0, at, &[byte]).is_ok());
-    told(rt, alloc, &program, &mut world, &mut out, &[(b"restart a", wanted)])
+    told(
+        rt,
+        alloc,
+        &program,
+        &mut world,
+        &mut out,
+        &[(b"restart a", wanted)],
+    )
 }
 
 #[test]

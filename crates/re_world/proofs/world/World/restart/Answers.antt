@@ -133,10 +133,11 @@ pub returns-in-Ok-clause-decided : goal.returns-in-Ok-clause-decided
 returns-in-Ok-clause-decided g c stored told place has =
     let n = c.args.number in
     let s = g.O.Outside.seen c.args.out.now in
-    subst (λ (u : WorldState). IsRestartAnswer u.program n stored (Up c.number-entries.result)) c.self.view_is
-    (c.in-Ok.device.memory.settled,
-    c.in-Ok.ensures.decided stored told (subst (λ (u : WorldState). HasStore u.program n (content_in s n 0) (content_in s n 1) stored) (sym c.self.view_is) has),
-    opened_number c.self.inside.program n c.in-Ok.device c.number-entries.result c.in-Ok.ensures.opened c.number-entries.ensures)
+    subst (λ (u : WorldState). IsRestartAnswer u.program n stored (Up c.number-entries.result)) c.self.view_is (
+      c.in-Ok.device.memory.settled,
+      c.in-Ok.ensures.decided stored told (subst (λ (u : WorldState). HasStore u.program n (content_in s n 0) (content_in s n 1) stored) (sym c.self.view_is) has),
+      opened_number c.self.inside.program n c.in-Ok.device c.number-entries.result c.in-Ok.ensures.opened c.number-entries.ensures,
+    )
 
 pub returns-in-Err-clause-decided : goal.returns-in-Err-clause-decided
 returns-in-Err-clause-decided g c stored told place has =
