@@ -134,17 +134,16 @@ returns g c =
           let of = merges (one_below v c.self.inside.packets.items kept c.args.packet c.in-Some.bytes.now at) in
           let place = sym c.lend.ensures.device ∙ c.in-Some-lend.is in
           let same : c.in-Ok.state ≡ state =
-              read_is c.in-Ok.state state
-              (c.in-Ok.ensures.only state (subst (λ q. FitsShape q state) (sym (c.self.invariant.shape ∙ ap shape_of program)) of.fits)
-              (c.as_slice.ensures ∙ one_of (sym (kept_at v c.self.inside.packets.items c.args.packet c.in-Some.bytes.now kept at) ∙ of.bytes) ∙ ap (λ (q : Shape). packet_bytes q.devices state) (sym (c.self.invariant.shape ∙ ap shape_of program)))) in
+          read_is c.in-Ok.state state
+          (c.in-Ok.ensures.only state (subst (λ q. FitsShape q state) (sym (c.self.invariant.shape ∙ ap shape_of program)) of.fits)
+          (c.as_slice.ensures ∙ one_of (sym (kept_at v c.self.inside.packets.items c.args.packet c.in-Some.bytes.now kept at) ∙ of.bytes) ∙ ap (λ (q : Shape). packet_bytes q.devices state) (sym (c.self.invariant.shape ∙ ap shape_of program)))) in
           subst (λ o. IsCausedBy o (entered_as c.take_merge-taken.result))
           (sym (device_is v (command.Deliver c.args.packet n) (one_seen v c.self.inside.packets.items kept c.args.packet c.in-Some.bytes.now at) state x (found_up v n x place) refl place))
           (subst (λ (r : RState). IsCausedBy (entry_refusal x (entry.Merge r)) (entered_as c.take_merge-taken.result)) same c.take_merge-taken.ensures.caused);
       same = back_all v c.lend.new.self c.give_back.new.self n x' c.lend.ensures.rest c.give_back.ensures x (sym c.lend.ensures.device ∙ c.in-Some-lend.is);
       writes =
           let program : c.self.inside.program ≡ v.program = ap (λ (u : WorldState). u.program) c.self.view_is in
-          let place = at_place c.get.result c.in-Some.bytes c.self.inside.packets.items c.args.packet c.get.ensures c.in-Some.is in
-          (
+          let place = at_place c.get.result c.in-Some.bytes c.self.inside.packets.items c.args.packet c.get.ensures c.in-Some.is in (
             c.in-Ok.state,
             packet_state v c.args.packet c.in-Some.bytes.now.items c.in-Ok.state (kept_at v c.self.inside.packets.items c.args.packet c.in-Some.bytes.now (packets_are v c.self.inside c.self.view_is) place)
                 (subst (λ q. IsPacket q c.in-Some.bytes.now.items) program (all_at (IsPacket c.self.inside.program) (seen_of c.self.inside).packets c.args.packet c.in-Some.bytes.now.items c.self.invariant.packets (kept_at (seen_of c.self.inside) c.self.inside.packets.items c.args.packet c.in-Some.bytes.now refl place)))
