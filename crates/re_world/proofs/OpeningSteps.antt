@@ -1,5 +1,5 @@
 -- The steps by which devices are opened, one behind the other.
-use Rattle.std.proofs.Common.{◌≡◌, ◌⊎◌, inl, inr, ◌+◌, ◌++◌, [], ℕ, suc, List, Result, Ok, Err, length, refl, sym, ap, subst, ◌∙◌, arith}
+use Rattle.std.proofs.Common.{◌≡◌, ◌⊎◌, inl, inr, ◌+◌, ◌++◌, [], ℕ, suc, Result, Ok, Err, length, refl, sym, ap, subst, ◌∙◌, arith}
 use Rattle.std.specs.Prelude.{true, ◌&&◌, if◌then◌else◌}
 use Rattle.std.specs.Result.{IsErrAnd}
 use Rattle.std.proofs.lemmas.List.{append_assoc}
@@ -8,8 +8,7 @@ use Rattle.re_compact.specs.declared.fault.OpenFault.{OpenFault}
 use Rattle.re_compact.specs.declared.fault.OpenFault.TheVariants.{BadStore, Disk, Memory, OtherProgram}
 use Rattle.re_journal.specs.Journals.{frame_of}
 use Rattle.re_outside.specs.Frame.{is_blank}
-use Rattle.re_outside.specs.Trace.{Past, as_device, content_at, content_of, with_steps}
-use Rattle.re_outside.specs.declared.step.Step.{Step}
+use Rattle.re_outside.specs.Trace.{Past, as_device, content_at, with_steps}
 use Rattle.re_restore.specs.Opening.{lay_steps, start_snapshot}
 use Rattle.re_terms.specs.declared.program.Program.{Program}
 use Rattle.re_world.specs.Opening.{HasAllOpeningSteps, HasNextSteps, HasOpeningSteps, RanOutBefore, after_opening, opening_steps, steps_before}

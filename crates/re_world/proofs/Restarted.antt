@@ -1,11 +1,8 @@
 -- A restart is a step of the world.
-use Rattle.std.proofs.Common.{◌≡◌, ◌⊎◌, inl, inr, ◌<◌, ◌+◌, ◌++◌, ◌∷◌, [], ℕ, List, Option, Some, None, Result, Ok, Err, length, refl, sym, ap, subst, ◌∙◌, arith}
-use Rattle.std.specs.Prelude.{Bool, false, true, ◌==◌, ◌≢◌, if◌then◌else◌, IfOk, map}
-use Rattle.std.specs.List.{All}
+use Rattle.std.proofs.Common.{◌≡◌, ◌⊎◌, inl, inr, ◌<◌, ◌+◌, ◌++◌, ◌∷◌, [], ℕ, List, Option, Some, None, length, refl, sym, ap, subst, ◌∙◌, arith}
+use Rattle.std.specs.Prelude.{Bool, false, true, ◌==◌, ◌≢◌, if◌then◌else◌}
 use Rattle.std.proofs.lemmas.List.{append-nil, length-append}
 use mathlib.Core.Bool.{true≢false}
-use Rattle.re_compact.specs.declared.fault.OpenFault.{OpenFault}
-use Rattle.re_compact.specs.declared.fault.OpenFault.TheVariants as refusal
 use Rattle.re_device.proofs.Opening.{opened_device}
 use Rattle.re_device.specs.Device.{DeviceMemory, DeviceState, opened_at}
 use Rattle.re_device.specs.Standing.{StandsSettled}
@@ -19,26 +16,24 @@ use Rattle.re_outside.specs.Trace.{IsCrashImageOf, Past, as_device, content_of}
 use Rattle.re_record.proofs.StoreLaws.{one_opening}
 use Rattle.re_record.specs.Restoring.{Opened, unopened}
 use Rattle.re_record.specs.Stores.{Blank, OpensTo}
-use Rattle.re_restore.specs.Opening.{AreBlank, StillOpens}
+use Rattle.re_restore.specs.Opening.{StillOpens}
 use Rattle.re_terms.proofs.CausalSteps.{stepped}
 use Rattle.re_terms.proofs.WorldSteps.{others_kept, with_at-same}
-use Rattle.re_terms.specs.Admission.{IsCommandOf, device_count}
+use Rattle.re_terms.specs.Admission.{device_count}
 use Rattle.re_terms.specs.CausalWorlds.{IsCausalWorld}
-use Rattle.re_terms.specs.DeviceWorlds.{BadStore, Failed, Fine, Memory, OtherProgram, Outcome, World, last_number, put_up, recovered, settled_number, settled_state, spelled, world_after}
+use Rattle.re_terms.specs.DeviceWorlds.{Outcome, World, put_up, recovered, settled_number, world_after}
 use Rattle.re_terms.specs.Entries.{PlainEntry, run_entries}
-use Rattle.re_terms.specs.Lines.{Done, entry_under_way, first_filled, further}
+use Rattle.re_terms.specs.Lines.{entry_under_way, first_filled}
 use Rattle.re_terms.specs.Programs.{IsProgram}
 use Rattle.re_terms.specs.Runs.{StandsForPlain}
-use Rattle.re_terms.specs.Shapes.{FitsShape, shape_of}
 use Rattle.re_terms.specs.Untouched.{IsUntouched}
-use Rattle.re_terms.specs.UpdateStates.{state_of_updates}
 use Rattle.re_terms.specs.declared.command.Command.TheVariants as command
 use Rattle.re_terms.specs.declared.program.Program.{Program}
 use Rattle.re_world.proofs.Agreeing.{untouched_same}
 use Rattle.re_world.proofs.Committed.{standing_rests}
 use Rattle.re_world.proofs.Stepped.{world_behind}
-use Rattle.re_world.proofs.Within.{rests_line, within_moves}
-use Rattle.re_world.specs.Images.{OpensAfter, OpensToLine}
+use Rattle.re_world.proofs.Within.{within_moves}
+use Rattle.re_world.specs.Images.{OpensAfter}
 use Rattle.re_world.specs.Opening.{IsOpened}
 use Rattle.re_world.specs.Standing.{HasDevice, IsWorldOf, RestsAs}
 use Rattle.re_world.specs.State.{WorldState, device_in}

@@ -1,5 +1,5 @@
 -- All that a restart does.
-use Rattle.std.proofs.Common.{◌≡◌, ◌⊎◌, inl, inr, ◌<◌, ◌+◌, ℕ, List, Option, Some, None, Result, Ok, Err, length, refl, sym, ap, subst, ◌∙◌}
+use Rattle.std.proofs.Common.{◌≡◌, inl, inr, ◌<◌, ◌+◌, ℕ, Some, None, Ok, Err, length, refl, sym, ap, subst, ◌∙◌}
 use Rattle.std.specs.Prelude.{Bool, false, true, ◌≢◌, option_and_then, unwrap_or}
 use mathlib.Core.Bool.{true≢false}
 use Rattle.std.specs.Option.{option_map_or, option_or}
@@ -19,7 +19,7 @@ use Rattle.re_record.specs.Stores.{HasStore, OpensTo, Stored}
 use Rattle.re_restore.specs.Opening.{HasRestoreCause, StillOpens}
 use Rattle.re_terms.proofs.WorldSteps.{done_after}
 use Rattle.re_terms.specs.Admission.{device_count}
-use Rattle.re_terms.specs.DeviceWorlds.{BadStore, Failed, Fine, Memory, OtherProgram, Outcome, World, device_of, fared_answer, fared_world, outcome_of, put_up, recovered, refusal, refused_where, reply, settled_number, world_after}
+use Rattle.re_terms.specs.DeviceWorlds.{BadStore, Failed, Fine, Memory, OtherProgram, Outcome, World, device_of, fared_answer, outcome_of, put_up, recovered, refusal, refused_where, reply, settled_number, world_after}
 use Rattle.re_terms.specs.Programs.{IsProgram}
 use Rattle.re_terms.specs.Worlds.{PlainAnswer, Refused, Up, plain_answer}
 use Rattle.re_terms.specs.declared.command.Answer.{Answer}
@@ -38,7 +38,7 @@ use Rattle.re_world.specs.FileSteps.{HasFileSteps, RestartsFrom, unopened_as}
 use Rattle.re_world.specs.Opening.{HasOpeningSteps, IsOpened, IsOpeningAnswer}
 use Rattle.re_world.specs.Standing.{IsWorldOf}
 use Rattle.re_world.specs.State.{WorldState, device_in}
-use Rattle.re_world.specs.Stepping.{CountsBy, DoesCommand, DoesInside, IsLeftStopped, IsRestartAnswer, NoneRose, OwnRose, Shows}
+use Rattle.re_world.specs.Stepping.{CountsBy, DoesCommand, DoesInside, IsLeftStopped, IsRestartAnswer, NoneRose, Shows}
 
 -- ---- causes
 

@@ -9,7 +9,7 @@ use Rattle.re_record.specs.Stores as stores
 use Rattle.re_restore.specs.Opening.{HasRestoreCause}
 use Rattle.re_terms.specs.Listed.{Listed}
 use Rattle.re_world.proofs.Opened.{all_faults, caused, held_before, none_opened, open_before, same_refusal}
-use Rattle.re_world.proofs.OpeningSteps.{made, next_handed, steps_more}
+use Rattle.re_world.proofs.OpeningSteps.{made, steps_more}
 use Rattle.re_world.specs.Opening.{AreOpened, EachOpened, HasNextSteps, opening_steps}
 use Rattle.re_world.specs.State.{AllPlaced}
 use Rattle.re_world.proofs.opening.open_all.Goals as goal

@@ -1,21 +1,18 @@
 -- A restart is a step of the world.
-use Rattle.std.proofs.Common.{◌≡◌, ◌∙◌, ◌<◌, ℕ, Bool, true, false, Option, None, Some, Result, Ok, Err, Bor, refl, sym, ap, subst, length, arith}
-use Rattle.std.specs.Prelude.{IfOk, ◌≢◌, slice_set}
+use Rattle.std.proofs.Common.{◌≡◌, ◌∙◌, ◌<◌, ℕ, true, false, Option, None, Some, Err, refl, sym, ap, subst, length, arith}
+use Rattle.std.specs.Prelude.{slice_set}
 use Rattle.std.specs.Option.{is_some, option_copied}
 use mathlib.Core.Bool.{true≢false}
 use Rattle.re_compact.specs.declared.fault.OpenFault.{OpenFault}
 use Rattle.re_compact.specs.declared.fault.OpenFault.TheVariants as unopened
-use Rattle.re_device.specs.Device.{DeviceState}
-use Rattle.re_outside.specs.Outside.{Seen, content_in}
+use Rattle.re_outside.specs.Outside.{content_in}
 use Rattle.re_record.specs.Stores as stores
 use Rattle.re_record.specs.Stores.{HasStore}
 use Rattle.re_terms.specs.Worlds.{BadFile, PlainAnswer, Refused, Up, plain_answer}
-use Rattle.re_record.specs.Restoring.{Opened}
 use Rattle.re_terms.specs.Admission.{device_count}
 use Rattle.re_terms.specs.declared.command.Answer.TheVariants as answer
 use Rattle.re_terms.specs.declared.command.Command.TheVariants as command
-use Rattle.re_terms.specs.declared.program.Program.{Program}
-use Rattle.re_world.proofs.Lent.{place_elsewhere, place_here, placed_in}
+use Rattle.re_world.proofs.Lent.{place_elsewhere, place_here}
 use Rattle.re_world.proofs.Restarting.{OpeningFacts, opened_does, opened_number, refused_by, unopened_does, up_does}
 use Rattle.re_world.specs.State.{WorldState, device_in, seen_of}
 use Rattle.re_world.specs.FileSteps.{unopened_as}
