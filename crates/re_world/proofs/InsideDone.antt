@@ -39,7 +39,7 @@ use Rattle.re_terms.specs.declared.entry.Admitted.{Admitted}
 use Rattle.re_terms.specs.declared.program.Program.{Program}
 use Rattle.re_world.proofs.Agreeing.{opens_in}
 use Rattle.re_world.proofs.Inside.{device_has, stop_first}
-use Rattle.re_world.proofs.Lent.{none_taken, place_below, place_elsewhere, place_here}
+use Rattle.re_world.proofs.Placed.{none_taken, place_below, place_elsewhere, place_here}
 use Rattle.re_world.proofs.Caused.{caused_free, device_is, found_up}
 use Rattle.re_world.proofs.Staying.{counts_still, keeps_done, keeps_still}
 use Rattle.re_world.proofs.Stepped.{world_behind}
@@ -142,5 +142,5 @@ module _ (old : WorldState) (n : ℕ) (of : IsCommandOf old.program (command.Cra
       (subst (λ o. HasDevice p (put_down w n) n o (past_in n s)) (sym (ap (λ (v : WorldState). device_in v n) is_new ∙ place_here old.devices n None (place_below old.devices n x place))) (with_at-same n false w.up)))
 
 -- nothing is taken of a device that is down
-pub none_lent : (old new : WorldState) (n : ℕ) → device_in old n ≡ None → new ≡ record old { devices = slice_set old.devices n None } → new ≡ old
-none_lent old new n none is = is ∙ (λ i. record { program = old.program; devices = none_taken old.devices n none i; packets = old.packets })
+pub none_out : (old new : WorldState) (n : ℕ) → device_in old n ≡ None → new ≡ record old { devices = slice_set old.devices n None } → new ≡ old
+none_out old new n none is = is ∙ (λ i. record { program = old.program; devices = none_taken old.devices n none i; packets = old.packets })

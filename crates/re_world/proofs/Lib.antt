@@ -12,7 +12,7 @@ pub mod InsideDone
 pub mod Kept
 pub mod Inside
 pub mod Leading
-pub mod Lent
+pub mod Placed
 pub mod Opened
 pub mod OpeningSteps
 pub mod Restarted

@@ -35,7 +35,7 @@ use Rattle.re_world.proofs.Staying.{keeps_done}
 use Rattle.re_world.proofs.Told.{packet_count}
 use Rattle.re_world.specs.Causes.{refusal_in}
 use Rattle.re_world.specs.Standing.{HasDevice, IsWorldOf}
-use Rattle.re_world.specs.State.{AllPlaced, IsKept, IsPacket, IsPlaced, WorldState, device_in, seen_of}
+use Rattle.re_world.specs.State.{AllPlaced, IsKept, IsPacket, IsPlaced, WorldState, device_in, state_of}
 use Rattle.re_world.specs.Stepping.{DoesInside}
 use Rattle.re_world.specs.declared.world.World.TheInside.{Inside}
 
@@ -54,7 +54,7 @@ kept_more w packets bytes kept is packet few = record {
 }
 
 -- what a device has settled makes a packet of the program
-pub settled_packet : (w : Inside) (v : WorldState) (n : ℕ) (x : DeviceState) (bytes : List ℕ) → seen_of w ≡ v → IsKept w → device_in v n ≡ Some x → FitsShape (shape_of x.memory.program) x.memory.settled.state.rep → bytes ≡ packet_bytes (shape_of x.memory.program).devices x.memory.settled.state.rep → IsPacket w.program bytes
+pub settled_packet : (w : Inside) (v : WorldState) (n : ℕ) (x : DeviceState) (bytes : List ℕ) → state_of w ≡ v → IsKept w → device_in v n ≡ Some x → FitsShape (shape_of x.memory.program) x.memory.settled.state.rep → bytes ≡ packet_bytes (shape_of x.memory.program).devices x.memory.settled.state.rep → IsPacket w.program bytes
 settled_packet w v n x bytes view kept place fits is =
     subst (λ (p : Program). IsPacket p bytes) own (x.memory.settled.state.rep, fits, is)
   where
@@ -62,21 +62,21 @@ settled_packet w v n x bytes view kept place fits is =
     own = (subst (IsPlaced w.program n) (ap (λ (u : WorldState). device_in u n) view ∙ place) (kept.placed n)).program
 
 -- what is seen of a packet more
-pub seen_more : (w : Inside) (v : WorldState) (packets : Listed (Bytes ℕ)) (bytes : Bytes ℕ) → seen_of w ≡ v → packets.items ≡ w.packets.items ++ bytes ∷ [] → seen_of (record w { packets = packets }) ≡ record v { packets = v.packets ++ bytes.items ∷ [] }
+pub seen_more : (w : Inside) (v : WorldState) (packets : Listed (Bytes ℕ)) (bytes : Bytes ℕ) → state_of w ≡ v → packets.items ≡ w.packets.items ++ bytes ∷ [] → state_of (record w { packets = packets }) ≡ record v { packets = v.packets ++ bytes.items ∷ [] }
 seen_more w v packets bytes view is =
-    subst (λ (u : WorldState). seen_of (record w { packets = packets }) ≡ record u { packets = u.packets ++ bytes.items ∷ [] }) view
+    subst (λ (u : WorldState). state_of (record w { packets = packets }) ≡ record u { packets = u.packets ++ bytes.items ∷ [] }) view
     (λ i. record { program = w.program; devices = w.devices.items; packets = (ap (map (λ (b : Bytes ℕ). b.items)) is ∙ map-append (λ (b : Bytes ℕ). b.items) w.packets.items (bytes ∷ [])) i })
 
 -- as many packets are seen as are kept
-pub seen_count : (w : Inside) (v : WorldState) → seen_of w ≡ v → length v.packets ≡ length w.packets.items
+pub seen_count : (w : Inside) (v : WorldState) → state_of w ≡ v → length v.packets ≡ length w.packets.items
 seen_count w v view = ap (λ (u : WorldState). length u.packets) (sym view) ∙ length-map w.packets.items (λ (b : Bytes ℕ). b.items)
 
 -- where the packets have stayed, all has
 pub kept_same : (w : Inside) (packets : Listed (Bytes ℕ)) → IsKept w → packets ≡ w.packets → IsKept (record w { packets = packets })
 kept_same w packets kept same = subst (λ q. IsKept (record w { packets = q })) (sym same) kept
 
-pub seen_same : (w : Inside) (v : WorldState) (packets : Listed (Bytes ℕ)) → seen_of w ≡ v → packets ≡ w.packets → seen_of (record w { packets = packets }) ≡ v
-seen_same w v packets view same = ap (λ q. seen_of (record w { packets = q })) same ∙ view
+pub seen_same : (w : Inside) (v : WorldState) (packets : Listed (Bytes ℕ)) → state_of w ≡ v → packets ≡ w.packets → state_of (record w { packets = packets }) ≡ v
+seen_same w v packets view same = ap (λ q. state_of (record w { packets = q })) same ∙ view
 
 -- ---- the command
 

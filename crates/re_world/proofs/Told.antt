@@ -27,11 +27,11 @@ use Rattle.re_terms.specs.declared.replicated.RState.{RState}
 use Rattle.re_world.proofs.Inside.{device_has, lacks_first, memory_does, refused_before, stop_first, unrefused}
 use Rattle.re_world.proofs.Caused.{caused_as, caused_free, device_is, found_up, lacks_is}
 use Rattle.re_world.proofs.InsideDone.{told_does}
-use Rattle.re_world.proofs.Lent.{no_some}
+use Rattle.re_world.proofs.Placed.{no_some}
 use Rattle.re_world.specs.Causes.{refusal_in}
 use Rattle.re_world.specs.FileSteps.{is_disk_refusal}
 use Rattle.re_world.specs.Standing.{IsWorldOf}
-use Rattle.re_world.specs.State.{WorldState, device_in, seen_of}
+use Rattle.re_world.specs.State.{WorldState, device_in, state_of}
 use Rattle.re_world.specs.Stepping.{DoesInside, IsSetOrMemory}
 use Rattle.re_world.specs.declared.world.World.TheInside.{Inside}
 
@@ -121,6 +121,6 @@ hex_does v k bytes at =
     behind p w s is = mapped (spelled p) (slice_get w.packets k) bytes.items [] (sym (slice_get-map (spelled p) w.packets k) ∙ ap (λ l. slice_get l k) (sym is.packets) ∙ at)
 
 -- a packet of a world, by what it keeps
-pub packet_at : (w : Inside) (v : WorldState) (k : ℕ) (o : Option (Bytes ℕ)) → seen_of w ≡ v → slice_get w.packets.items k ≡ o → slice_get v.packets k ≡ option_map (λ (bytes : Bytes ℕ). bytes.items) o
+pub packet_at : (w : Inside) (v : WorldState) (k : ℕ) (o : Option (Bytes ℕ)) → state_of w ≡ v → slice_get w.packets.items k ≡ o → slice_get v.packets k ≡ option_map (λ (bytes : Bytes ℕ). bytes.items) o
 packet_at w v k o view at =
     ap (λ (u : WorldState). slice_get u.packets k) (sym view) ∙ slice_get-map (λ (bytes : Bytes ℕ). bytes.items) w.packets.items k ∙ ap (option_map (λ (bytes : Bytes ℕ). bytes.items)) at

@@ -35,7 +35,7 @@ use Rattle.re_terms.specs.declared.program.Program.{Program}
 use Rattle.re_world.proofs.Caused.{device_is, found_up}
 use Rattle.re_world.proofs.Inside.{device_has}
 use Rattle.re_world.proofs.InsideDone.{HoldsAlike, done_does, inside_behind}
-use Rattle.re_world.proofs.Lent.{back_elsewhere, back_here, back_same, place_below}
+use Rattle.re_world.proofs.Placed.{back_elsewhere, back_here, back_same, place_below}
 use Rattle.re_world.proofs.Staying.{keeps_done}
 use Rattle.re_world.specs.Causes.{HasCause}
 use Rattle.re_world.specs.FileSteps.{is_disk_refusal}

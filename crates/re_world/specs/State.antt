@@ -26,8 +26,8 @@ device_in v d = option_and_then (λ (x : Option DeviceState). x) (slice_get v.de
 
 -- ---- what is kept
 
-abbrev pub seen_of : Inside → WorldState
-seen_of w = record { program = w.program; devices = w.devices.items; packets = map (λ (bytes : Listed ℕ). bytes.items) w.packets.items }
+abbrev pub state_of : Inside → WorldState
+state_of w = record { program = w.program; devices = w.devices.items; packets = map (λ (bytes : Listed ℕ). bytes.items) w.packets.items }
 
 -- a device of this program, with this place among its devices
 pub record IsDeviceIn (p : Program) (d : ℕ) (device : DeviceState) : Type 0 where
@@ -53,5 +53,5 @@ pub record IsKept (w : Inside) : Type 0 where
   pub shape : w.shape ≡ shape_of w.program
   pub count : length w.devices.items ≡ device_count w.program.decls.items
   pub placed : AllPlaced w.program w.devices.items
-  pub packets : All (IsPacket w.program) (seen_of w).packets
+  pub packets : All (IsPacket w.program) (state_of w).packets
   pub few : length w.packets.items ≤ 10000

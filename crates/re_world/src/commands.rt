@@ -55,11 +55,11 @@ impl World {
         requires { IsCommandOf self.old.program (Command.Lazy number turn) }
         ensures { DoesInside self.old self.new (Command.Lazy number turn) result }
     {
-        let Some(mut device) = self.lend(number) else {
+        let Some(mut device) = self.take_out(number) else {
             return Answer::No(DOWN);
         };
         let applied = device.lazy(turn, steps);
-        self.give_back(number, device);
+        self.put_in(number, device);
         match applied {
             Ok(number) => Answer::Applied(number),
             Err(fault) => refused(fault),
@@ -122,7 +122,7 @@ impl World {
         requires { IsCommandOf self.old.program (Command.Crash number) }
         ensures { DoesInside self.old self.new (Command.Crash number) result }
     {
-        let Some(_dropped) = self.lend(number) else {
+        let Some(_dropped) = self.take_out(number) else {
             return Answer::No(DOWN);
         };
         Answer::Down

@@ -50,11 +50,11 @@ impl World {
         requires { IsCommandOf self.old.program (Command.Turn number turn) }
         ensures { DoesCommand O.tells self.old self.new (Command.Turn number turn) result (O.seen out.old) (O.seen out.new) }
     {
-        let Some(mut device) = self.lend(number) else {
+        let Some(mut device) = self.take_out(number) else {
             return Answer::No(DOWN);
         };
         let taken = take_turn(out, number, &mut device, turn, steps);
-        self.give_back(number, device);
+        self.put_in(number, device);
         entered(taken)
     }
 
@@ -77,11 +77,11 @@ impl World {
             Err(WireFault::Memory) => return Answer::No(MEMORY),
             Err(WireFault::At(_)) => unreachable!(),
         };
-        let Some(mut device) = self.lend(number) else {
+        let Some(mut device) = self.take_out(number) else {
             return Answer::No(DOWN);
         };
         let taken = take_merge(out, number, &mut device, state, steps);
-        self.give_back(number, device);
+        self.put_in(number, device);
         entered(taken)
     }
 
@@ -90,11 +90,11 @@ impl World {
         requires { IsCommandOf self.old.program (Command.Settle number) }
         ensures { DoesCommand O.tells self.old self.new (Command.Settle number) result (O.seen out.old) (O.seen out.new) }
     {
-        let Some(mut device) = self.lend(number) else {
+        let Some(mut device) = self.take_out(number) else {
             return Answer::No(DOWN);
         };
         let taken = settle_entries(out, number, &mut device);
-        self.give_back(number, device);
+        self.put_in(number, device);
         settled(taken)
     }
 }

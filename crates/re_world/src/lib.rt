@@ -6,8 +6,8 @@ mod calls;
 mod commands;
 mod commits;
 pub mod laws;
-mod lending;
 mod opening;
+mod places;
 mod restart;
 #[cfg(test)]
 mod tests;

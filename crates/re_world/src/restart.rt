@@ -45,7 +45,7 @@ impl World {
         match open_outside(self.alloc, out, &self.program, number) {
             Ok(device) => {
                 let entries = device.number();
-                self.give_back(number, device);
+                self.put_in(number, device);
                 Answer::Up(entries)
             }
             Err(fault) => unopened(fault),

@@ -60,9 +60,9 @@ impl Model for World {
 
     ghost coded = { Prim.hlevel (codes, expr.the_row.coded) };
 
-    ghost use Rattle.re_world.specs.State.{IsKept, seen_of};
+    ghost use Rattle.re_world.specs.State.{IsKept, state_of};
 
-    ghost view = { seen_of };
+    ghost view = { state_of };
 
     ghost invariant = { IsKept };
 }

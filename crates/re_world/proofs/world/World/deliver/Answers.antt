@@ -17,14 +17,14 @@ use Rattle.re_world.proofs.CommitKinds.{deliver_commit}
 use Rattle.re_world.proofs.Doing.{commit_does}
 use Rattle.re_world.proofs.Delivered.{all_at, kept_at, none_seen, none_there, one_below, one_seen, one_there, packet_of, packet_short, packet_state}
 use Rattle.re_world.proofs.Inside.{down_does, lacks_first, memory_does, refused_before}
-use Rattle.re_world.proofs.Lent.{back_all, back_others, back_packets, back_place, back_program, lent_none, no_some}
+use Rattle.re_world.proofs.Placed.{back_all, back_others, back_packets, back_place, back_program, none_taken_out, no_some}
 use Rattle.re_outside.specs.Listed.{Listed}
 use Rattle.re_terms.proofs.ProgramShapes.{program_shape}
 use Rattle.re_terms.specs.Shapes.{FitsShape, IsShape, shape_of}
 use Rattle.re_terms.specs.Spellings.{packet_bytes}
 use Rattle.re_terms.specs.declared.replicated.RState.{RState}
 use Rattle.re_terms.specs.declared.replicated.Shape.{Shape}
-use Rattle.re_world.specs.State.{IsDeviceIn, IsPacket, WorldState, seen_of}
+use Rattle.re_world.specs.State.{IsDeviceIn, IsPacket, WorldState, state_of}
 use Rattle.re_wire.specs.Reading.{Fails}
 use Rattle.re_wire.specs.declared.fault.WireFault.{WireFault}
 use Rattle.re_wire.specs.declared.fault.WireFault.TheVariants as wire
@@ -33,7 +33,7 @@ use Rattle.re_world.specs.Stepping.{DoesCommand}
 use Rattle.re_world.proofs.world.World.deliver.Goals as goal
 
 -- the packets as they are kept
-packets_are : (v : WorldState) (w : Inside) → seen_of w ≡ v → v.packets ≡ map (λ (bytes : Listed ℕ). bytes.items) w.packets.items
+packets_are : (v : WorldState) (w : Inside) → state_of w ≡ v → v.packets ≡ map (λ (bytes : Listed ℕ). bytes.items) w.packets.items
 packets_are v w same = ap (λ (u : WorldState). u.packets) (sym same)
 
 -- the one at this place
@@ -65,31 +65,31 @@ decode-requires-clause-shape g c = subst IsShape (sym c.self.invariant.shape) (p
 
 pub decode-requires-clause-limit : goal.decode-requires-clause-limit
 decode-requires-clause-limit g c =
-    let at = kept_at (seen_of c.self.inside) c.self.inside.packets.items c.args.packet c.in-Some.bytes.now refl (at_place c.get.result c.in-Some.bytes c.self.inside.packets.items c.args.packet c.get.ensures c.in-Some.is) in
-    subst (λ (l : List ℕ). length l < 2 ^ 32) (sym c.as_slice.ensures) (packet_short c.self.inside.program c.in-Some.bytes.now.items c.self.invariant.is_program (all_at (IsPacket c.self.inside.program) (seen_of c.self.inside).packets c.args.packet c.in-Some.bytes.now.items c.self.invariant.packets at))
+    let at = kept_at (state_of c.self.inside) c.self.inside.packets.items c.args.packet c.in-Some.bytes.now refl (at_place c.get.result c.in-Some.bytes c.self.inside.packets.items c.args.packet c.get.ensures c.in-Some.is) in
+    subst (λ (l : List ℕ). length l < 2 ^ 32) (sym c.as_slice.ensures) (packet_short c.self.inside.program c.in-Some.bytes.now.items c.self.invariant.is_program (all_at (IsPacket c.self.inside.program) (state_of c.self.inside).packets c.args.packet c.in-Some.bytes.now.items c.self.invariant.packets at))
 
 pub returns-in-Err-Memory : goal.returns-in-Err-Memory
 returns-in-Err-Memory g c = memory_does c.args.self.now (command.Deliver c.args.packet c.args.number) refl g.O.Outside.tells (g.O.Outside.seen c.args.out.now)
 
 pub unreachable-requires : goal.unreachable-requires
 unreachable-requires g c =
-    let at = kept_at (seen_of c.self.inside) c.self.inside.packets.items c.args.packet c.in-Some.bytes.now refl (at_place c.get.result c.in-Some.bytes c.self.inside.packets.items c.args.packet c.get.ensures c.in-Some.is) in
-    let packet : IsPacket c.self.inside.program c.in-Some.bytes.now.items = all_at (IsPacket c.self.inside.program) (seen_of c.self.inside).packets c.args.packet c.in-Some.bytes.now.items c.self.invariant.packets at in
+    let at = kept_at (state_of c.self.inside) c.self.inside.packets.items c.args.packet c.in-Some.bytes.now refl (at_place c.get.result c.in-Some.bytes c.self.inside.packets.items c.args.packet c.get.ensures c.in-Some.is) in
+    let packet : IsPacket c.self.inside.program c.in-Some.bytes.now.items = all_at (IsPacket c.self.inside.program) (state_of c.self.inside).packets c.args.packet c.in-Some.bytes.now.items c.self.invariant.packets at in
     never_refused packet.0 c.in-Err-At.field-0 c.in-Err-At.field-0-0 c.in-Err-At.field-0-is (c.in-Err-At.ensures.only packet.0 (subst (λ q. FitsShape q packet.0) (sym c.self.invariant.shape) packet.1) (c.as_slice.ensures ∙ packet.2 ∙ ap (λ (q : Shape). packet_bytes q.devices packet.0) (sym c.self.invariant.shape)))
 
-pub returns-in_default-lend : goal.returns-in_default-lend
-returns-in_default-lend g c =
+pub returns-in_default-take_out : goal.returns-in_default-take_out
+returns-in_default-take_out g c =
     let v = c.args.self.now in
     let s = g.O.Outside.seen c.args.out.now in
-    let place = sym c.lend.ensures.device ∙ no_some c.lend.result c.in_default-lend.not-Some in
-    subst (λ u. DoesCommand g.O.Outside.tells v u (command.Deliver c.args.packet c.args.number) (answer.No 26) s s) (sym (lent_none v c.lend.new.self c.args.number c.lend.ensures.rest place))
+    let place = sym c.take_out.ensures.device ∙ no_some c.take_out.result c.in_default-take_out.not-Some in
+    subst (λ u. DoesCommand g.O.Outside.tells v u (command.Deliver c.args.packet c.args.number) (answer.No 26) s s) (sym (none_taken_out v c.take_out.new.self c.args.number c.take_out.ensures.rest place))
     (down_does v (command.Deliver c.args.packet c.args.number) c.args.number c.requires place refl (found_down v c.args.number place) (one_seen v c.self.inside.packets.items (packets_are v c.self.inside c.self.view_is) c.args.packet c.in-Some.bytes.now (at_place c.get.result c.in-Some.bytes c.self.inside.packets.items c.args.packet c.get.ensures c.in-Some.is)) (λ w. refl) (λ p w t is. one_there p w v t is c.self.inside.packets.items (packets_are v c.self.inside c.self.view_is) c.args.packet c.in-Some.bytes.now (at_place c.get.result c.in-Some.bytes c.self.inside.packets.items c.args.packet c.get.ensures c.in-Some.is)) g.O.Outside.tells s)
 
-pub give_back-requires-clause-placed : goal.give_back-requires-clause-placed
-give_back-requires-clause-placed g c =
-    let placed : IsDeviceIn c.args.self.now.program c.args.number c.in-Some-lend.device = c.in-Some-lend.ensures.placed in
+pub put_in-requires-clause-placed : goal.put_in-requires-clause-placed
+put_in-requires-clause-placed g c =
+    let placed : IsDeviceIn c.args.self.now.program c.args.number c.in-Some-take_out.device = c.in-Some-take_out.ensures.placed in
     record {
-      program = c.take_merge-taken.ensures.leaves.program ∙ placed.program ∙ sym (ap (λ (u : WorldState). u.program) c.lend.ensures.rest);
+      program = c.take_merge-taken.ensures.leaves.program ∙ placed.program ∙ sym (ap (λ (u : WorldState). u.program) c.take_out.ensures.rest);
       number_is = c.take_merge-taken.ensures.leaves.number ∙ placed.number_is;
     }
 
@@ -97,22 +97,22 @@ pub returns : goal.returns
 returns g c =
     let v = c.args.self.now in
     let n = c.args.number in
-    let x = c.in-Some-lend.device in
+    let x = c.in-Some-take_out.device in
     let x' = c.take_merge-taken.new.device in
-    let placed : IsDeviceIn v.program n x = c.in-Some-lend.ensures.placed in
-    let below = subst (λ k. n < k) (sym c.lend.ensures.count) c.requires in
-    commit_does (IsPacketOf x c.args.packet c.in-Ok.state) (λ (d : Done). Entered d.number) (x.memory.unsettled ++ logged x.memory (entry.Merge c.in-Ok.state) ∷ []) (current (with_entry x.memory (logged x.memory (entry.Merge c.in-Ok.state)))) g.O.Outside.tells v c.give_back.new.self x x' (λ k. command.Deliver c.args.packet k) c.entered.result (g.O.Outside.seen c.args.out.now) (g.O.Outside.seen c.take_merge-taken.new.out) c.take_merge-taken.result n placed.number_is
+    let placed : IsDeviceIn v.program n x = c.in-Some-take_out.ensures.placed in
+    let below = subst (λ k. n < k) (sym c.take_out.ensures.count) c.requires in
+    commit_does (IsPacketOf x c.args.packet c.in-Ok.state) (λ (d : Done). Entered d.number) (x.memory.unsettled ++ logged x.memory (entry.Merge c.in-Ok.state) ∷ []) (current (with_entry x.memory (logged x.memory (entry.Merge c.in-Ok.state)))) g.O.Outside.tells v c.put_in.new.self x x' (λ k. command.Deliver c.args.packet k) c.entered.result (g.O.Outside.seen c.args.out.now) (g.O.Outside.seen c.take_merge-taken.new.out) c.take_merge-taken.result n placed.number_is
     (record {
       of = c.requires;
       below = c.requires;
       device_is = refl;
       commit = λ p w. deliver_commit p w n c.args.packet;
-      place = sym c.lend.ensures.device ∙ c.in-Some-lend.is;
+      place = sym c.take_out.ensures.device ∙ c.in-Some-take_out.is;
       number = c.take_merge-taken.ensures.leaves.number ∙ placed.number_is;
-      new_place = back_place v c.lend.new.self c.give_back.new.self n x' c.lend.ensures.rest c.give_back.ensures below;
-      other_places = back_others v c.lend.new.self c.give_back.new.self n x' c.lend.ensures.rest c.give_back.ensures;
-      program = back_program v c.lend.new.self c.give_back.new.self n x' c.lend.ensures.rest c.give_back.ensures;
-      packets = back_packets v c.lend.new.self c.give_back.new.self n x' c.lend.ensures.rest c.give_back.ensures;
+      new_place = back_place v c.take_out.new.self c.put_in.new.self n x' c.take_out.ensures.rest c.put_in.ensures below;
+      other_places = back_others v c.take_out.new.self c.put_in.new.self n x' c.take_out.ensures.rest c.put_in.ensures;
+      program = back_program v c.take_out.new.self c.put_in.new.self n x' c.take_out.ensures.rest c.put_in.ensures;
+      packets = back_packets v c.take_out.new.self c.put_in.new.self n x' c.take_out.ensures.rest c.put_in.ensures;
       answer = c.entered.ensures.answer;
       ascends = c.entered.ensures.ascends;
       cause = c.take_merge-taken.ensures.cause;
@@ -132,7 +132,7 @@ returns g c =
           let at = at_place c.get.result c.in-Some.bytes c.self.inside.packets.items c.args.packet c.get.ensures c.in-Some.is in
           let kept = packets_are v c.self.inside c.self.view_is in
           let of = merges (one_below v c.self.inside.packets.items kept c.args.packet c.in-Some.bytes.now at) in
-          let place = sym c.lend.ensures.device ∙ c.in-Some-lend.is in
+          let place = sym c.take_out.ensures.device ∙ c.in-Some-take_out.is in
           let same : c.in-Ok.state ≡ state =
           read_is c.in-Ok.state state
           (c.in-Ok.ensures.only state (subst (λ q. FitsShape q state) (sym (c.self.invariant.shape ∙ ap shape_of program)) of.fits)
@@ -140,13 +140,13 @@ returns g c =
           subst (λ o. IsCausedBy o (entered_as c.take_merge-taken.result))
           (sym (device_is v (command.Deliver c.args.packet n) (one_seen v c.self.inside.packets.items kept c.args.packet c.in-Some.bytes.now at) state x (found_up v n x place) refl place))
           (subst (λ (r : RState). IsCausedBy (entry_refusal x (entry.Merge r)) (entered_as c.take_merge-taken.result)) same c.take_merge-taken.ensures.caused);
-      same = back_all v c.lend.new.self c.give_back.new.self n x' c.lend.ensures.rest c.give_back.ensures x (sym c.lend.ensures.device ∙ c.in-Some-lend.is);
+      same = back_all v c.take_out.new.self c.put_in.new.self n x' c.take_out.ensures.rest c.put_in.ensures x (sym c.take_out.ensures.device ∙ c.in-Some-take_out.is);
       writes =
           let program : c.self.inside.program ≡ v.program = ap (λ (u : WorldState). u.program) c.self.view_is in
           let place = at_place c.get.result c.in-Some.bytes c.self.inside.packets.items c.args.packet c.get.ensures c.in-Some.is in (
             c.in-Ok.state,
             packet_state v c.args.packet c.in-Some.bytes.now.items c.in-Ok.state (kept_at v c.self.inside.packets.items c.args.packet c.in-Some.bytes.now (packets_are v c.self.inside c.self.view_is) place)
-                (subst (λ q. IsPacket q c.in-Some.bytes.now.items) program (all_at (IsPacket c.self.inside.program) (seen_of c.self.inside).packets c.args.packet c.in-Some.bytes.now.items c.self.invariant.packets (kept_at (seen_of c.self.inside) c.self.inside.packets.items c.args.packet c.in-Some.bytes.now refl place)))
+                (subst (λ q. IsPacket q c.in-Some.bytes.now.items) program (all_at (IsPacket c.self.inside.program) (state_of c.self.inside).packets c.args.packet c.in-Some.bytes.now.items c.self.invariant.packets (kept_at (state_of c.self.inside) c.self.inside.packets.items c.args.packet c.in-Some.bytes.now refl place)))
                 (λ r fits same. read_is c.in-Ok.state r (c.in-Ok.ensures.only r (subst (λ q. FitsShape q r) (sym (c.self.invariant.shape ∙ ap shape_of program)) fits) (c.as_slice.ensures ∙ same ∙ ap (λ (q : Shape). packet_bytes q.devices r) (sym (c.self.invariant.shape ∙ ap shape_of program))))),
             refl,
           );

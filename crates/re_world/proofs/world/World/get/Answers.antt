@@ -6,7 +6,7 @@ use Rattle.re_device.specs.Causes.{refusal_by}
 use Rattle.re_terms.specs.Worlds.{StoppedAt}
 use Rattle.re_world.proofs.Caused.{caused_as, device_is, found_down, found_up}
 use Rattle.re_world.proofs.Inside.{down_does, stopped_does}
-use Rattle.re_world.proofs.Lent.{no_some}
+use Rattle.re_world.proofs.Placed.{no_some}
 use Rattle.re_world.proofs.Told.{get_does, nothing_behind}
 use Rattle.re_world.proofs.world.World.get.Goals as goal
 

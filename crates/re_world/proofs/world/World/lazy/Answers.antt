@@ -7,8 +7,8 @@ use Rattle.re_terms.specs.declared.command.Answer.TheVariants as answer
 use Rattle.re_terms.specs.declared.command.Command.TheVariants as command
 use Rattle.re_world.proofs.Caused.{found_down}
 use Rattle.re_world.proofs.Inside.{down_does}
-use Rattle.re_world.proofs.InsideDone.{none_lent}
-use Rattle.re_world.proofs.Lent.{no_some}
+use Rattle.re_world.proofs.InsideDone.{none_out}
+use Rattle.re_world.proofs.Placed.{no_some}
 use Rattle.re_world.proofs.Unsettled.{keeps_own, lazy_does}
 use Rattle.re_world.specs.State.{WorldState}
 use Rattle.re_world.specs.Stepping.{DoesInside}
@@ -19,17 +19,17 @@ returns-in_default g c =
     let old = c.args.self.now in
     let n = c.args.number in
     let asked = command.Lazy n c.args.turn in
-    let none = sym c.lend.ensures.device ∙ no_some c.lend.result c.in_default.not-Some in
-    subst (λ v. DoesInside old v asked (answer.No 26)) (sym (none_lent old c.lend.new.self n none c.lend.ensures.rest)) (down_does old asked n c.requires.0 none refl (found_down old n none) refl (λ u. refl) (λ p u s is. refl))
+    let none = sym c.take_out.ensures.device ∙ no_some c.take_out.result c.in_default.not-Some in
+    subst (λ v. DoesInside old v asked (answer.No 26)) (sym (none_out old c.take_out.new.self n none c.take_out.ensures.rest)) (down_does old asked n c.requires.0 none refl (found_down old n none) refl (λ u. refl) (λ p u s is. refl))
 
 pub lazy-applied-requires : goal.lazy-applied-requires
 lazy-applied-requires g c = subst (λ q. IsAdmitted q c.args.turn.turn) (sym c.in-Some.ensures.placed.program) c.requires.1
 
-pub give_back-requires-clause-placed : goal.give_back-requires-clause-placed
-give_back-requires-clause-placed g c =
+pub put_in-requires-clause-placed : goal.put_in-requires-clause-placed
+put_in-requires-clause-placed g c =
     let own = keeps_own c.in-Some.device c.lazy-applied.new.self _ c.lazy-applied.result c.lazy-applied.ensures.memory c.lazy-applied.ensures.unchanged in
     record {
-      program = own.program ∙ c.in-Some.ensures.placed.program ∙ sym (ap (λ (v : WorldState). v.program) c.lend.ensures.rest);
+      program = own.program ∙ c.in-Some.ensures.placed.program ∙ sym (ap (λ (v : WorldState). v.program) c.take_out.ensures.rest);
       number_is = own.number ∙ c.in-Some.ensures.placed.number_is;
     }
 
@@ -40,12 +40,12 @@ returns-in-Ok g c =
     let x = c.in-Some.device in
     let x' = c.lazy-applied.new.self in
     let r = c.lazy-applied.result in
-    lazy_does old c.give_back.new.self n x x' c.args.turn (answer.Applied c.in-Ok.number) r
+    lazy_does old c.put_in.new.self n x x' c.args.turn (answer.Applied c.in-Ok.number) r
     (record {
       of = c.requires;
-      place = sym c.lend.ensures.device ∙ c.in-Some.is;
+      place = sym c.take_out.ensures.device ∙ c.in-Some.is;
       number = c.in-Some.ensures.placed.number_is;
-      back = c.give_back.ensures ∙ ap (λ (v : WorldState). record v { devices = slice_set v.devices n (Some x') }) c.lend.ensures.rest;
+      back = c.put_in.ensures ∙ ap (λ (v : WorldState). record v { devices = slice_set v.devices n (Some x') }) c.take_out.ensures.rest;
       answer = sym (ap applied_as c.in-Ok.is);
       steps = c.lazy-applied.ensures.world;
       journal = c.lazy-applied.ensures.store.0;
@@ -63,12 +63,12 @@ returns-in-Err g c =
     let x = c.in-Some.device in
     let x' = c.lazy-applied.new.self in
     let r = c.lazy-applied.result in
-    lazy_does old c.give_back.new.self n x x' c.args.turn c.refused.result r
+    lazy_does old c.put_in.new.self n x x' c.args.turn c.refused.result r
     (record {
       of = c.requires;
-      place = sym c.lend.ensures.device ∙ c.in-Some.is;
+      place = sym c.take_out.ensures.device ∙ c.in-Some.is;
       number = c.in-Some.ensures.placed.number_is;
-      back = c.give_back.ensures ∙ ap (λ (v : WorldState). record v { devices = slice_set v.devices n (Some x') }) c.lend.ensures.rest;
+      back = c.put_in.ensures ∙ ap (λ (v : WorldState). record v { devices = slice_set v.devices n (Some x') }) c.take_out.ensures.rest;
       answer = c.refused.ensures ∙ sym (ap applied_as c.in-Err.is);
       steps = c.lazy-applied.ensures.world;
       journal = c.lazy-applied.ensures.store.0;

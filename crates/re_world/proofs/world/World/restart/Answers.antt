@@ -12,9 +12,9 @@ use Rattle.re_terms.specs.Worlds.{BadFile, PlainAnswer, Refused, Up, plain_answe
 use Rattle.re_terms.specs.Admission.{device_count}
 use Rattle.re_terms.specs.declared.command.Answer.TheVariants as answer
 use Rattle.re_terms.specs.declared.command.Command.TheVariants as command
-use Rattle.re_world.proofs.Lent.{place_elsewhere, place_here}
+use Rattle.re_world.proofs.Placed.{place_elsewhere, place_here}
 use Rattle.re_world.proofs.Restarting.{OpeningFacts, opened_does, opened_number, refused_by, unopened_does, up_does}
-use Rattle.re_world.specs.State.{WorldState, device_in, seen_of}
+use Rattle.re_world.specs.State.{WorldState, device_in, state_of}
 use Rattle.re_world.specs.FileSteps.{unopened_as}
 use Rattle.re_world.specs.Stepping.{DoesCommand, IsRestartAnswer}
 use Rattle.re_world.proofs.world.World.restart.Goals as goal
@@ -66,15 +66,15 @@ returns-then-is_some-clause-does g c =
 pub returns-in-Ok-clause-does : goal.returns-in-Ok-clause-does
 returns-in-Ok-clause-does g c =
     let w = c.self.inside in
-    let v = seen_of w in
+    let v = state_of w in
     let n = c.args.number in
     let x = c.in-Ok.device in
     let before = g.O.Outside.seen c.args.out.now in
     let now = g.O.Outside.seen c.open_outside.new.out in
-    let new = c.give_back.new.self in
+    let new = c.put_in.new.self in
     let below : n < device_count w.program.decls.items = subst (λ (u : WorldState). n < device_count u.program.decls.items) (sym c.self.view_is) c.requires in
     let place : device_in v n ≡ None = subst (λ (u : WorldState). device_in u n ≡ None) (sym c.self.view_is) (sym c.device.ensures ∙ ap option_copied (none_there c.device.result (sym c.if-is_some.false ∙ c.is_some.ensures))) in
-    let back : new ≡ record v { devices = slice_set v.devices n (Some x) } = subst (λ (u : WorldState). new ≡ record u { devices = slice_set u.devices n (Some x) }) (sym c.self.view_is) c.give_back.ensures in
+    let back : new ≡ record v { devices = slice_set v.devices n (Some x) } = subst (λ (u : WorldState). new ≡ record u { devices = slice_set u.devices n (Some x) }) (sym c.self.view_is) c.put_in.ensures in
     let there : n < length v.devices = subst (λ k. n < k) (sym c.self.invariant.count) below in
     let facts : OpeningFacts g.O.Outside.tells v n before now = record {
       is_program = c.self.invariant.is_program;
@@ -93,7 +93,7 @@ returns-in-Ok-clause-does g c =
 pub returns-in-Err-clause-does : goal.returns-in-Err-clause-does
 returns-in-Err-clause-does g c =
     let w = c.self.inside in
-    let v = seen_of w in
+    let v = state_of w in
     let n = c.args.number in
     let before = g.O.Outside.seen c.args.out.now in
     let now = g.O.Outside.seen c.open_outside.new.out in

@@ -12,7 +12,7 @@ use Rattle.std.specs.Option.{option_or}
 use Rattle.std.specs.Prelude.{length, nat_le}
 use Rattle.re_world.proofs.Caused.{caused_as, device_is, found_down, found_up}
 use Rattle.re_world.proofs.Inside.{down_does, memory_does, stopped_does}
-use Rattle.re_world.proofs.Lent.{no_some}
+use Rattle.re_world.proofs.Placed.{no_some}
 use Rattle.re_world.proofs.Sent.{kept_more, kept_same, seen_count, seen_more, seen_same, send_does, send_none, settled_packet}
 use Rattle.re_world.proofs.Told.{nothing_behind}
 use Rattle.re_world.specs.Stepping.{DoesInside}
