@@ -2,7 +2,6 @@ pub mod Advancing
 pub mod Committing
 pub mod Device
 pub mod Keeping
-pub mod Placing
 pub mod Ready
 pub mod Refusals
 pub mod Standing
