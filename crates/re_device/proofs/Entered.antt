@@ -23,7 +23,7 @@ use Rattle.re_device.proofs.Memories.{accepted_more, agrees_kept, as_kept, state
 use Rattle.re_device.proofs.Puts.{of_ok, put_signals-declared, put_signals-is, put_words-declared, put_words-is, put_words-placed}
 use Rattle.re_device.specs.Device.{DeviceMemory, current, logged, rep_after, step_by, takes_no_more}
 use Rattle.re_device.specs.Keeping.{AreCurrent, IsKept, IsTaken, memory_of, settled_of, unsettled_of}
-use Rattle.re_device.specs.Placing.{at_each}
+use Rattle.re_terms.specs.Placing.{at_each}
 use Rattle.re_device.specs.Taking.{MayBeTaken}
 use Rattle.re_device.specs.declared.device.Device.TheInside.{Inside}
 use Rattle.re_device.specs.declared.store.Settled.{Settled}

@@ -4,13 +4,10 @@ pub mod Fared
 pub mod LimitFaults
 pub mod Memories
 pub mod Opening
-pub mod Placed
 pub mod PlainEntries
 pub mod Puts
-pub mod Reading
 pub mod Records
 pub mod Results
-pub mod SetPlaces
 pub mod Settling
 pub mod Shown
 pub mod WorldDevices

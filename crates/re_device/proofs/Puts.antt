@@ -14,8 +14,9 @@ use Rattle.re_terms.specs.Cells.{is_cell, cell_place}
 use Rattle.re_terms.specs.Worlds.{is_full}
 use Rattle.re_prop.specs.Caching.{put_at, put_all, cached_word, signal_words}
 use Rattle.re_prop.proofs.Putting.{put_signals}
-use Rattle.re_device.specs.Placing.{at_each}
-use Rattle.re_device.proofs.Placed.{length-at_each, put_at-places, changes-declared, changes-placed, signal_changes-declared}
+use Rattle.re_terms.specs.Placing.{at_each}
+use Rattle.re_terms.proofs.Placed.{length-at_each, changes-declared, changes-placed, signal_changes-declared}
+use Rattle.re_prop.proofs.PutPlaces.{put_at-places}
 
 left_false : (a b : Bool) → (a || b) ≡ false → a ≡ false
 left_false true b is = is

@@ -18,7 +18,7 @@ use Rattle.re_terms.specs.declared.entry.Logged.{Logged}
 use Rattle.re_terms.specs.declared.entry.State.{State}
 use Rattle.re_terms.specs.declared.program.Program.{Program}
 use Rattle.re_device.specs.Device.{DeviceMemory, DeviceState, current}
-use Rattle.re_device.specs.Placing.{places_of}
+use Rattle.re_terms.specs.Placing.{places_of}
 use Rattle.re_device.specs.declared.device.Device.TheInside.{Inside}
 
 -- ---- what is seen of it

@@ -3,7 +3,6 @@ pub mod Causes
 pub mod Committing
 pub mod Device
 pub mod Keeping
-pub mod Placing
 pub mod Ready
 pub mod Refusals
 pub mod Standing

@@ -22,7 +22,6 @@ ghost use Rattle.re_device.specs.Standing.{LeavesEither, ReadsBy, StandsSettled}
 ghost use Rattle.re_device.specs.Stepping.{IsPacketOf, StepsTo, StepsWhere, applied_as, entered_as, fared_as, settled_as};
 
 use crate::fault::{DeviceFault, Done};
-use crate::places::Places;
 use crate::store::Settled;
 use re_eval::Steps;
 use re_graph::Graph;
@@ -30,7 +29,7 @@ use re_journal::Journal;
 use re_outbox::Outbox;
 use re_outside::Disk;
 use re_prop::Cache;
-use re_terms::{Admitted, Entry, Logged, Program, RState, Seq, Shape, State, TryCopy};
+use re_terms::{Admitted, Entry, Logged, Places, Program, RState, Seq, Shape, State, TryCopy};
 use std::alloc::{AllocError, Global};
 use std::marker::Model;
 use std::sync::ledger::Ledger;

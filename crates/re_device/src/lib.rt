@@ -6,7 +6,6 @@ mod device;
 mod env;
 mod fault;
 pub mod laws;
-mod places;
 mod readers;
 mod store;
 mod taking;

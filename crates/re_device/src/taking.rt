@@ -10,10 +10,9 @@ ghost use Rattle.re_device.specs.Taking.{IsTakenBy, IsTakingFault, MayBeTaken};
 use crate::advance::{advanced, newest, put_rep};
 use crate::device::Device;
 use crate::fault::DeviceFault;
-use crate::places::Places;
 use re_eval::Steps;
 use re_prop::{Cache, propagate};
-use re_terms::{Entry, Logged, Put, RState, Seq, State, Word};
+use re_terms::{Entry, Logged, Places, Put, RState, Seq, State, Word};
 use std::alloc::AllocError;
 use std::sync::ledger::Ledger;
 

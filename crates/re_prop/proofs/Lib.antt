@@ -7,7 +7,9 @@ pub mod Fits
 pub mod Givens
 pub mod Consequences
 pub mod Outcomes
+pub mod PutPlaces
 pub mod Putting
+pub mod ReadWords
 pub mod Samples
 pub mod SetSizes
 pub mod Uses

@@ -3,7 +3,6 @@ use Rattle.std.proofs.Common.{◌≡◌, ◌<◌, ℕ, true, false, Option, None
 use Rattle.std.specs.Prelude.{slice_get, slice_index}
 use Rattle.std.specs.List.{All, count_by, list_all}
 use Rattle.std.specs.Option.{option_map_or}
-use Rattle.std.proofs.lemmas.List.FromFn.{length-map-range_with_len, get_or-map-range_with_len}
 use Rattle.std.proofs.lemmas.List.Sums.{AllPass-from_list_all}
 use Rattle.std.proofs.lemmas.Option.{slice_get_within}
 use Rattle.re_terms.specs.Admission.{symbol_count}
@@ -15,13 +14,8 @@ use Rattle.re_terms.specs.declared.program.Body.{Body}
 use Rattle.re_terms.specs.declared.program.Body.TheVariants as body
 use Rattle.re_terms.specs.declared.program.Decl.{Decl}
 use Rattle.re_terms.proofs.ChangesKept.{place_within}
-use Rattle.re_restore.specs.Replaying.{word_places}
-
-length-word_places : (decls : List Decl) → length (word_places decls) ≡ length decls
-length-word_places decls = length-map-range_with_len (cell_place decls) 0 (length decls)
-
-word_places-at : (decls : List Decl) (id : ℕ) → id < length decls → slice_index (word_places decls) id ≡ cell_place decls id
-word_places-at decls id within = get_or-map-range_with_len (cell_place decls) 0 (length decls) id id 0 within (omega arith)
+use Rattle.re_terms.proofs.Placed.{at_each-at, length-at_each}
+use Rattle.re_terms.specs.Placing.{at_each}
 
 never : {A : Type 0} → false ≡ true → A
 never h = absurd (let e : false ≡ true = h in cc)
@@ -46,7 +40,7 @@ found_placed decls x (Some d) at is = record {
 change_placed : (decls : List Decl) (x : Put) → is_change_of decls x ≡ true → IsPlaced decls (count_by is_cell decls) x
 change_placed decls x is = found_placed decls x (slice_get decls x.id) refl is
 
-module _ (decls : List Decl) (places : List ℕ) (puts : List Put) (are : places ≡ word_places decls) (changes : list_all (is_change_of decls) puts ≡ true) where
+module _ (decls : List Decl) (places : List ℕ) (puts : List Put) (are : places ≡ at_each cell_place decls) (changes : list_all (is_change_of decls) puts ≡ true) where
   each : (k : ℕ) (d : Put) → k < length puts → IsPlaced decls (count_by is_cell decls) (get_or puts k d)
   each k d within = change_placed decls (get_or puts k d) (AllPass-from_list_all (is_change_of decls) puts changes k d within)
 
@@ -54,12 +48,12 @@ module _ (decls : List Decl) (places : List ℕ) (puts : List Put) (are : places
   pub changes_declared : All (λ put. put.id < length places) puts
   changes_declared k d within =
       let at = (each k d within).declared in
-      let count : length places ≡ length decls = ap length are ∙ length-word_places decls in
+      let count : length places ≡ length decls = ap length are ∙ length-at_each cell_place decls in
       omega (arith, at, count)
 
   -- the places that are kept are those of the words
   pub changes_own : All (λ put. slice_index places put.id ≡ cell_place decls put.id) puts
-  changes_own k d within = ap (λ l. slice_index l (get_or puts k d).id) are ∙ word_places-at decls (get_or puts k d).id (each k d within).declared
+  changes_own k d within = ap (λ l. slice_index l (get_or puts k d).id) are ∙ at_each-at cell_place decls (get_or puts k d).id (each k d within).declared
 
   -- and they lie among the words
   pub changes_placed : (n : ℕ) → n ≡ count_by is_cell decls → All (λ put. slice_index places put.id < n) puts

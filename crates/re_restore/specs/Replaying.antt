@@ -1,7 +1,7 @@
 -- A device as the entries of its store are replayed.
--- Read against: with `device a; var x: int = 2; signal s = x + 3; var y: int = 7;` the places of words are 0, 0, 1, 1; a replay of the start has the words 2 and 7, and stands for the start with the number 0.
+-- Read against: with `device a; var x: int = 2; signal s = x + 3; var y: int = 7;` a replay of the start has the words 2 and 7 and the places 0, 0, 1, 1 of words, and stands for the start with the number 0.
 use Rattle.std.specs.Prelude.{◌≡◌, ◌<◌, ◌^◌, ℕ, ◌+◌, true, List, ◌++◌, ◌∷◌, map, length}
-use Rattle.std.specs.List.{flat_map, list_all, range_with_len}
+use Rattle.std.specs.List.{flat_map, list_all}
 use Rattle.re_outside.specs.Frame.{opened}
 use Rattle.re_outside.specs.Listed.{Listed}
 use Rattle.re_record.specs.Logs.{IsRecordOf}
@@ -9,21 +9,15 @@ use Rattle.re_record.specs.Restoring.{AreAccepted, Opened, after_all}
 use Rattle.re_record.specs.Spellings.{record_bytes}
 use Rattle.re_record.specs.Stores.{AreRecordsOf, IsBadRecord}
 use Rattle.re_restore.specs.declared.replay.Replay.{Replay}
-use Rattle.re_terms.specs.Cells.{cell_place}
-use Rattle.re_terms.specs.Listed.{plain}
+use Rattle.re_terms.specs.Placing.{places_of}
 use Rattle.re_terms.specs.ShapedUpdates.{is_operation_in}
 use Rattle.re_terms.specs.Shapes.{FitsShape, shape_of}
 use Rattle.re_terms.specs.WordKinds.{AreWordsOf}
 use Rattle.re_terms.specs.declared.entry.Entry.{Entry}
 use Rattle.re_terms.specs.declared.entry.Entry.TheVariants as entry
 use Rattle.re_terms.specs.declared.entry.Logged.{Logged}
-use Rattle.re_terms.specs.declared.program.Decl.{Decl}
 use Rattle.re_terms.specs.declared.program.Program.{Program}
 use Rattle.re_terms.specs.declared.replicated.Shape.{Shape}
-
--- for each declaration how many vars and folds are declared before it
-abbrev pub word_places : List Decl → List ℕ
-word_places decls = map (cell_place decls) (range_with_len 0 (length decls))
 
 -- a replicated state of this shape may do the entry: the operations of a turn are of its cells, and a merged state is of its shape
 abbrev pub TakesEntry : Shape → Entry → Type 0
@@ -34,7 +28,7 @@ TakesEntry shape (entry.Merge r) = FitsShape shape r
 pub record IsReplayOf (p : Program) (r : Replay) : Type 0 where
   pub words : AreWordsOf p r.words.items
   pub unreserved : r.words.spare ≡ 0
-  pub places : r.places ≡ plain (word_places p.decls.items)
+  pub places : r.places ≡ places_of p.decls.items
   pub shape : r.replica.shape ≡ shape_of p
   pub number : r.number < 2 ^ 48
 

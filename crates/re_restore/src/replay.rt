@@ -2,10 +2,9 @@
 ghost use Rattle.std.specs.Prelude.{◌≡◌, ◌<◌, ◌^◌, true, false, IfOk, OnOk};
 ghost use Rattle.re_record.specs.Logs.{IsLoggedOf};
 ghost use Rattle.re_record.specs.Restoring.{is_refused, opened_after};
-ghost use Rattle.re_restore.specs.Replaying.{IsReplayOf, replayed, word_places};
+ghost use Rattle.re_restore.specs.Replaying.{IsReplayOf, replayed};
 ghost use Rattle.re_restore.specs.declared.entries.EntryFault.TheVariants.{Limit};
 ghost use Rattle.re_terms.specs.Admission.{device_count};
-ghost use Rattle.re_terms.specs.Listed.{plain};
 ghost use Rattle.re_terms.specs.Programs.{IsProgram};
 ghost use Rattle.re_terms.specs.Shapes.{shape_of};
 ghost use Rattle.re_terms.specs.WordKinds.{IsStateOf};
@@ -13,7 +12,7 @@ ghost use Rattle.re_terms.specs.declared.program.Program.{Program as AProgram};
 
 use crate::entries::{EntryFault, do_entry, put_changes};
 use re_replica::Replica;
-use re_terms::{Logged, Program, Seq, Shape, State, Word};
+use re_terms::{Logged, Places, Program, Seq, Shape, State, Word};
 use std::alloc::{AllocError, Global};
 
 /// No entry has this number or a greater one.
@@ -23,24 +22,9 @@ const NUMBERS: u64 = 1 << 48;
 #[derive(Drop)]
 pub struct Replay {
     words: Seq<Word>,
-    /// For each declaration how many vars and folds are declared before it.
-    places: Seq<u16>,
+    places: Places,
     replica: Replica,
     number: u64,
-}
-
-/// For each declaration how many vars and folds are declared before it. The one refusal is want of memory.
-fn word_places(alloc: Global, p: &Program) -> Result<Seq<u16>, AllocError>
-    requires { IsProgram p.now }
-    ensures { IfOk result (λ places. places ≡ plain (word_places p.now.decls.items)) }
-{
-    let mut places = Seq::new(alloc);
-    let mut count = 0;
-    for decl in p.decls.as_slice() {
-        places.push(count)?;
-        count += u16::from(decl.body.is_cell());
-    }
-    Ok(places)
 }
 
 impl Replay {
@@ -63,7 +47,7 @@ impl Replay {
         ensures device { IfOk result (λ r. r.replica.device ≡ device) }
         ensures begins { IfOk result (λ r. replayed r ≡ record { state = state; number = number }) }
     {
-        let places = word_places(alloc, p)?;
+        let places = Places::of(alloc, p)?;
         Ok(Replay {
             words: state.words,
             places,
@@ -101,7 +85,7 @@ impl Replay {
         }
         do_entry(&mut self.replica, &logged.entry)?;
         let changes = logged.changes.as_slice();
-        put_changes(&mut self.words, p, self.places.as_slice(), changes);
+        put_changes(&mut self.words, p, self.places.words.as_slice(), changes);
         self.number = number;
         Ok(())
     }

@@ -45,3 +45,5 @@ pub mod StateLengths
 pub mod StartStates
 pub mod StatesKept
 pub mod PutWords
+pub mod Placed
+pub mod SetPlaces

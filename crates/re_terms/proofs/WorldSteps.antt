@@ -30,10 +30,11 @@ with_at-other d x f e h = ap (λ b. if b then x else f e) h
 
 -- ---- a device that a command isn't for
 
-module _ (w : World) (d : ℕ) where
-  untouched_same : IsUntouched d w w
-  untouched_same = record { base = refl; base_number = refl; settled = refl; unsettled = refl; in_doubt = refl; reads = refl; count = refl; stop = refl; up = refl }
+-- a device stands in a world as in itself
+pub untouched_same : (d : ℕ) (w : World) → IsUntouched d w w
+untouched_same d w = record { base = refl; base_number = refl; settled = refl; unsettled = refl; in_doubt = refl; reads = refl; count = refl; stop = refl; up = refl }
 
+module _ (w : World) (d : ℕ) where
   settle_other : (e : ℕ) (entries : List PlainEntry) → (d == e) ≡ false → IsUntouched d w (settle w e entries)
   settle_other e entries h = record {
     base = refl;
@@ -87,10 +88,10 @@ module _ (w : World) (d : ℕ) where
     up = refl;
   }
   done_other (command.Settle e) h = settle_other e _ h
-  done_other (command.Get e id) h = untouched_same
+  done_other (command.Get e id) h = untouched_same d w
   done_other (command.Send e) h = record { base = refl; base_number = refl; settled = refl; unsettled = refl; in_doubt = refl; reads = refl; count = refl; stop = refl; up = refl }
   done_other (command.Deliver k e) h = committed_other e _ h
-  done_other (command.Hex k) h = untouched_same
+  done_other (command.Hex k) h = untouched_same d w
   done_other (command.Crash e) h = record {
     base = refl;
     base_number = refl;
@@ -118,26 +119,26 @@ module _ (w : World) (d : ℕ) where
   failed_other (command.Turn e t) at gate_open h = doubt_other e _ at gate_open h
   failed_other (command.Deliver k e) at gate_open h = doubt_other e _ at gate_open h
   failed_other (command.Settle e) at gate_open h = doubt_other e _ at gate_open h
-  failed_other (command.Lazy e t) at gate_open h = untouched_same
-  failed_other (command.Get e id) at gate_open h = untouched_same
-  failed_other (command.Send e) at gate_open h = untouched_same
-  failed_other (command.Hex k) at gate_open h = untouched_same
-  failed_other (command.Crash e) at gate_open h = untouched_same
-  failed_other (command.Restart e) at gate_open h = untouched_same
+  failed_other (command.Lazy e t) at gate_open h = untouched_same d w
+  failed_other (command.Get e id) at gate_open h = untouched_same d w
+  failed_other (command.Send e) at gate_open h = untouched_same d w
+  failed_other (command.Hex k) at gate_open h = untouched_same d w
+  failed_other (command.Crash e) at gate_open h = untouched_same d w
+  failed_other (command.Restart e) at gate_open h = untouched_same d w
 
   fared_other : (c : Command) (o : Outcome) → is_for d c ≡ false → IsUntouched d w (fared_world w c o)
   fared_other c Fine h = done_other c h
-  fared_other c Memory h = untouched_same
+  fared_other c Memory h = untouched_same d w
   fared_other c (Failed at gate_open) h = failed_other c at gate_open h
-  fared_other c (BadStore file place) h = untouched_same
-  fared_other c OtherProgram h = untouched_same
+  fared_other c (BadStore file place) h = untouched_same d w
+  fared_other c OtherProgram h = untouched_same d w
 
 pub others_kept : (p : Program) (w : World) (c : Command) (o : Outcome) (d : ℕ) → is_for d c ≡ false → IsUntouched d w (world_after p w c o)
 others_kept p w c o d h = by_refusal (refusal p w c)
   where
     by_refusal : (r : Option PlainAnswer) → IsUntouched d w (option_map_or (λ refused. w) r (fared_world w c (outcome_of w c o)))
     by_refusal None = fared_other w d c (outcome_of w c o) h
-    by_refusal (Some a) = untouched_same w d
+    by_refusal (Some a) = untouched_same d w
 
 -- ---- refusals
 

@@ -1,6 +1,6 @@
 -- A session's world over several devices, and one step of it.
 -- Read against: on `device a; counter c;` the commands lazy a add c 5, send a, crash a, restart a, turn a add c 7, send a, get a c are answered applied 1, packet 0, down, up 0, ok 1, packet 1, 7; the packet 0 has no update.
--- Where the third call of a turn's commit fails and the record's byte doesn't read as open, turn a x = 5, turn a x = 6, crash a, restart a are answered no 33, no 34 at 3, down, up 0; where it does read so, up 1.
+-- On `device a; var x: int = 0;` where the third call of a turn's commit fails and the record's byte doesn't read as open, turn a x = 5, turn a x = 6, crash a, restart a are answered no 33, no 34 at 3, down, up 0; where it does read so, up 1.
 use Rattle.std.specs.Prelude.{ℕ, ◌+◌, ◌==◌, Bool, true, false, not, if◌then◌else◌, List, [], ◌∷◌, ◌++◌, length, nat_le, nat_lt, Option, None, Some, option_map, option_and_then, unwrap_or, slice_get}
 use Rattle.std.specs.Option.{option_map_or, option_or}
 use Rattle.re_terms.specs.declared.program.Program.{Program}
@@ -45,6 +45,7 @@ pub data Outcome : Type 0 where
   -- memory ran out in it
   Memory : Outcome
   -- this file call of the device failed, and whether the files as they read hold the record in hand
+  -- of a restart that fails neither changes anything: there both are free
   Failed : (at : ℕ) (gate_open : Bool) → Outcome
   -- no call of the restart failed, and the store is bad in this file, at this place
   BadStore : (file : ℕ) (place : ℕ) → Outcome

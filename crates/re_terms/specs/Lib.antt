@@ -13,6 +13,7 @@ pub mod Lines
 pub mod Listed
 pub mod Meaning
 pub mod Parts
+pub mod Placing
 pub mod Programs
 pub mod Propagation
 pub mod Replication

@@ -19,8 +19,9 @@ use Rattle.re_prop.specs.Caching.{put_at, put_all, cached_word, signal_words}
 use Rattle.re_terms.proofs.PutWords.{words_put}
 use Rattle.re_prop.proofs.Putting.{put_signals}
 use Rattle.re_unstored.specs.Device.{DeviceState, rep_after, after_turn}
-use Rattle.re_unstored.specs.Placing.{at_each}
-use Rattle.re_unstored.proofs.Placed.{length-at_each, put_at-places, changes-declared, changes-placed, signal_changes-declared}
+use Rattle.re_terms.specs.Placing.{at_each}
+use Rattle.re_terms.proofs.Placed.{length-at_each, changes-declared, changes-placed, signal_changes-declared}
+use Rattle.re_prop.proofs.PutPlaces.{put_at-places}
 
 left_false : (a b : Bool) → (a || b) ≡ false → a ≡ false
 left_false true b is = is

@@ -8,7 +8,7 @@ use Rattle.re_terms.specs.Shapes.{shape_of}
 use Rattle.re_terms.specs.Views.{view_of}
 use Rattle.re_terms.specs.WordKinds.{IsStateOf}
 use Rattle.re_prop.specs.Caching.{signal_words}
-use Rattle.re_unstored.specs.Placing.{places_of}
+use Rattle.re_terms.specs.Placing.{places_of}
 use Rattle.re_unstored.specs.declared.unstored.Unstored.TheInside.{Inside}
 
 pub record IsKept (d : Inside) : Type 0 where

@@ -6,7 +6,6 @@ mod fault;
 #[cfg(test)]
 mod operation_tests;
 mod operations;
-mod places;
 #[cfg(test)]
 mod tests;
 mod unstored;

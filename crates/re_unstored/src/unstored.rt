@@ -19,14 +19,14 @@ ghost use Rattle.re_unstored.specs.Device.{started, told_of, after_turn, turn_fa
 
 use crate::fault::{DeviceFault, Done};
 use crate::operations::{newest, operated, put_rep};
-use crate::places::Places;
 use re_eval::Steps;
 use re_graph::Graph;
 use re_prop::sizes::size_at;
 use re_prop::view::{NO_WORD, has_at, word_at, word_in};
 use re_prop::{Cache, Prepared, propagate};
 use re_terms::{
-    Admitted, Body, Entry, Logged, Pair, Program, Put, RCell, RState, Seq, Shape, State, Word,
+    Admitted, Body, Entry, Logged, Pair, Places, Program, Put, RCell, RState, Seq, Shape, State,
+    Word,
 };
 use std::alloc::{AllocError, Global};
 use std::marker::Model;

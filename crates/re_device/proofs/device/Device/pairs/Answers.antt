@@ -6,8 +6,8 @@ use Rattle.re_terms.specs.Worlds.{is_set_at}
 use Rattle.re_terms.specs.declared.replicated.RCell.TheVariants as cell
 use Rattle.re_device.specs.Device.{DeviceState, current}
 use Rattle.re_terms.specs.declared.replicated.RState.{RState}
-use Rattle.re_device.proofs.Reading.{replicated_at}
-use Rattle.re_device.proofs.SetPlaces.{ascends, read_at, set_read, set_there, within}
+use Rattle.re_prop.proofs.ReadWords.{replicated_at}
+use Rattle.re_terms.proofs.SetPlaces.{ascends, read_at, set_read, set_there, within}
 use Rattle.re_device.proofs.device.Device.pairs.Goals as goal
 
 pub offset_bounds-cells-replicated : goal.offset_bounds-cells-replicated

@@ -7,7 +7,7 @@ use Rattle.re_terms.specs.declared.replicated.RState.{RState}
 use Rattle.re_terms.specs.Views.{View, cell_size, view_of}
 use Rattle.re_prop.proofs.Fits.{sets_of_fit}
 use Rattle.re_device.specs.Device.{DeviceState, told_of}
-use Rattle.re_device.proofs.Reading.{replicated_at}
+use Rattle.re_prop.proofs.ReadWords.{replicated_at}
 use Rattle.re_device.proofs.device.Device.size_of.Goals as goal
 
 pub size_at-requires : goal.size_at-requires

@@ -12,8 +12,8 @@ use Rattle.re_terms.specs.Views.{View, cell_word, view_of}
 use Rattle.re_prop.proofs.Before.{signal_word-none, cached_at, length-signal_words}
 use Rattle.re_device.specs.Device.{DeviceState, current}
 use Rattle.re_device.proofs.Shown.{shown_word}
-use Rattle.re_device.proofs.Placed.{length-at_each}
-use Rattle.re_device.proofs.Reading.{IsOther, other_word, own_word, kept_at, replicated_at}
+use Rattle.re_terms.proofs.Placed.{length-at_each}
+use Rattle.re_prop.proofs.ReadWords.{IsOther, other_word, own_word, kept_at, replicated_at}
 use Rattle.re_device.proofs.device.Device.word.Goals as goal
 
 none_past : (decls : List Decl) (id : ℕ) → None ≡ slice_get decls id → length decls ≤ id

@@ -12,18 +12,18 @@ do_entry-requires c = takes_in c.args.p.now c.args.self.now.replica.shape c.args
 
 pub put_changes-requires-clause-declared : goal.put_changes-requires-clause-declared
 put_changes-requires-clause-declared c =
-    changes_declared c.args.p.now.decls.items c.as_slice.result.now c.as_slice-changes.result.now (c.as_slice.ensures ∙ ap (λ l. l.items) c.requires.keeps.places)
+    changes_declared c.args.p.now.decls.items c.as_slice.result.now c.as_slice-changes.result.now (c.as_slice.ensures ∙ ap (λ x. x.words.items) c.requires.keeps.places)
     (subst (λ (l : List Put). list_all (is_change_of c.args.p.now.decls.items) l ≡ true) (sym c.as_slice-changes.ensures) c.requires.entry.changes.kinds)
 
 pub put_changes-requires-clause-placed : goal.put_changes-requires-clause-placed
 put_changes-requires-clause-placed c =
-    changes_placed c.args.p.now.decls.items c.as_slice.result.now c.as_slice-changes.result.now (c.as_slice.ensures ∙ ap (λ l. l.items) c.requires.keeps.places)
+    changes_placed c.args.p.now.decls.items c.as_slice.result.now c.as_slice-changes.result.now (c.as_slice.ensures ∙ ap (λ x. x.words.items) c.requires.keeps.places)
     (subst (λ (l : List Put). list_all (is_change_of c.args.p.now.decls.items) l ≡ true) (sym c.as_slice-changes.ensures) c.requires.entry.changes.kinds)
     _ c.requires.keeps.words.count
 
 pub put_changes-requires-clause-own : goal.put_changes-requires-clause-own
 put_changes-requires-clause-own c =
-    changes_own c.args.p.now.decls.items c.as_slice.result.now c.as_slice-changes.result.now (c.as_slice.ensures ∙ ap (λ l. l.items) c.requires.keeps.places)
+    changes_own c.args.p.now.decls.items c.as_slice.result.now c.as_slice-changes.result.now (c.as_slice.ensures ∙ ap (λ x. x.words.items) c.requires.keeps.places)
     (subst (λ (l : List Put). list_all (is_change_of c.args.p.now.decls.items) l ≡ true) (sym c.as_slice-changes.ensures) c.requires.entry.changes.kinds)
 
 pub returns-clause-keeps : goal.returns-clause-keeps

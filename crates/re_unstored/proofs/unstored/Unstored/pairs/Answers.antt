@@ -5,8 +5,8 @@ use Rattle.re_terms.specs.SignalWords.{replicated_place}
 use Rattle.re_terms.specs.Worlds.{is_set_at}
 use Rattle.re_terms.specs.declared.replicated.RCell.TheVariants as cell
 use Rattle.re_unstored.specs.Device.{DeviceState}
-use Rattle.re_unstored.proofs.Reading.{replicated_at}
-use Rattle.re_unstored.proofs.SetPlaces.{ascends, read_at, set_read, set_there, within}
+use Rattle.re_prop.proofs.ReadWords.{replicated_at}
+use Rattle.re_terms.proofs.SetPlaces.{ascends, read_at, set_read, set_there, within}
 use Rattle.re_unstored.proofs.unstored.Unstored.pairs.Goals as goal
 
 pub offset_bounds-cells-replicated : goal.offset_bounds-cells-replicated

@@ -11,8 +11,8 @@ use Rattle.re_terms.specs.SignalWords.{body_word, no_word, replicated_place, sig
 use Rattle.re_terms.specs.Views.{View, cell_word, view_of}
 use Rattle.re_prop.proofs.Before.{signal_word-none, cached_at, length-signal_words}
 use Rattle.re_unstored.specs.Device.{DeviceState}
-use Rattle.re_unstored.proofs.Placed.{length-at_each}
-use Rattle.re_unstored.proofs.Reading.{IsOther, other_word, own_word, kept_at, replicated_at}
+use Rattle.re_terms.proofs.Placed.{length-at_each}
+use Rattle.re_prop.proofs.ReadWords.{IsOther, other_word, own_word, kept_at, replicated_at}
 use Rattle.re_unstored.proofs.unstored.Unstored.word.Goals as goal
 
 none_past : (decls : List Decl) (id : ℕ) → None ≡ slice_get decls id → length decls ≤ id

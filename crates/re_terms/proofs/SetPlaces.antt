@@ -1,13 +1,10 @@
 -- Where a declared set stands among the replicated cells.
-use Rattle.std.proofs.Common.{◌≡◌, ◌+◌, ◌<◌, ℕ, zero, suc, inl, inr, true, false, cond, Option, None, Some, List, [], ◌∷◌, length, take, refl, sym, ap, subst, ◌∙◌, arith}
+use Rattle.std.proofs.Common.{◌≡◌, ◌<◌, ℕ, inl, inr, true, false, Option, None, Some, List, length, refl, sym, ap, subst, ◌∙◌, arith}
 use Rattle.std.specs.Prelude.{slice_get, slice_index_or}
-use Rattle.std.specs.List.{cons_option}
 use Rattle.std.specs.List.Sorted.{IsStrictlySortedBy}
 use Rattle.std.specs.Option.{option_map_or}
-use Rattle.std.proofs.lemmas.List.Sums.{sum_by-cons}
 use Rattle.std.proofs.lemmas.Option.{get_or_from_slice_get, slice_get-get_or, slice_get_cases, slice_get_within}
 use Rattle.re_terms.specs.Listed.{Listed}
-use Rattle.re_terms.specs.Programs.{is_replicated, is_replicated_body}
 use Rattle.re_terms.specs.Shapes.{FitsKind, FitsShape, replicated_kind, replicated_kinds, shape_of}
 use Rattle.re_terms.specs.SignalWords.{replicated_place}
 use Rattle.re_terms.specs.WordOrder.{pair_cmp}
@@ -19,45 +16,11 @@ use Rattle.re_terms.specs.declared.program.Program.{Program}
 use Rattle.re_terms.specs.declared.replicated.Pair.{Pair}
 use Rattle.re_terms.specs.declared.replicated.RCell.{RCell}
 use Rattle.re_terms.specs.declared.replicated.RCell.TheVariants as cell
-use Rattle.re_terms.specs.declared.replicated.RKind.{RKind}
 use Rattle.re_terms.specs.declared.replicated.RKind.TheVariants as replicated
 use Rattle.re_terms.specs.declared.replicated.RState.{RState}
 use Rattle.re_terms.specs.declared.replicated.Shape.{Shape}
 use Rattle.re_terms.specs.declared.word.Kind.{Kind}
-
-one_after : (kind : RKind) (kinds : List RKind) (place : ℕ) → slice_get (kind ∷ kinds) (1 + place) ≡ slice_get kinds place
-one_after kind kinds place = let e : 1 + place ≡ suc place = omega arith in ap (slice_get (kind ∷ kinds)) e
-
-none_before : (kinds : List RKind) (place : ℕ) → slice_get kinds (0 + place) ≡ slice_get kinds place
-none_before kinds place = let e : 0 + place ≡ place = omega arith in ap (slice_get kinds) e
-
--- the cells after a declaration stand one place further where it is a replicated cell
-moved : (b : Body) (kinds : List RKind) (place : ℕ) → slice_get (cons_option (replicated_kind b) kinds) (cond (is_replicated_body b) 1 0 + place) ≡ slice_get kinds place
-moved body.Device kinds place = none_before kinds place
-moved body.Symbol kinds place = none_before kinds place
-moved (body.Var kind start region) kinds place = none_before kinds place
-moved (body.Event kind) kinds place = none_before kinds place
-moved (body.Signal kind expr) kinds place = none_before kinds place
-moved (body.Changed of) kinds place = none_before kinds place
-moved (body.Map source kind expr) kinds place = none_before kinds place
-moved (body.Filter source expr) kinds place = none_before kinds place
-moved (body.Either left right) kinds place = none_before kinds place
-moved (body.Fold kind start source expr region) kinds place = none_before kinds place
-moved body.Counter kinds place = one_after replicated.Counter kinds place
-moved (body.Set kind) kinds place = one_after (replicated.Set kind) kinds place
-moved (body.Register kind start) kinds place = one_after (replicated.Register kind start) kinds place
-
--- a replicated cell's kind stands at its place
-kind_at : (decls : List Decl) (id : ℕ) (d : Decl) (k : RKind) → slice_get decls id ≡ Some d → replicated_kind d.body ≡ Some k → slice_get (replicated_kinds decls) (replicated_place decls id) ≡ Some k
-kind_at [] id d k at is = absurd (let e : None ≡ Some d = at in cc)
-kind_at (x ∷ decls) zero d k at is =
-    let own : Some x ≡ Some d = at in
-    let e : x ≡ d = cc in
-    ap (λ (o : Option RKind). slice_get (cons_option o (replicated_kinds decls)) 0) (ap (λ (y : Decl). replicated_kind y.body) e ∙ is)
-kind_at (x ∷ decls) (suc id) d k at is =
-    ap (slice_get (replicated_kinds (x ∷ decls))) (sum_by-cons (λ (y : Decl). cond (is_replicated y) 1 0) x (take id decls))
-    ∙ moved x.body (replicated_kinds decls) (replicated_place decls id)
-    ∙ kind_at decls id d k at is
+use Rattle.re_terms.proofs.ReplicatedPlaces.{kind_at}
 
 set_kind : (b : Body) → is_set_body b ≡ true → (k : Kind) × (replicated_kind b ≡ Some (replicated.Set k))
 set_kind body.Device is = absurd (cc)

@@ -19,9 +19,9 @@ use Rattle.re_terms.specs.Cells.{is_cell_body, cell_place}
 use Rattle.re_terms.specs.SignalWords.{no_word, replicated_place, body_word, place_word, signal_word}
 use Rattle.re_terms.specs.Views.{View}
 use Rattle.re_prop.proofs.Before.{signal_word-own, kept_word}
-use Rattle.re_unstored.specs.Placing.{at_each, places_of}
-use Rattle.re_unstored.specs.declared.places.Places.{Places}
-use Rattle.re_unstored.proofs.Placed.{at_each-at, length-at_each}
+use Rattle.re_terms.specs.Placing.{at_each, places_of}
+use Rattle.re_terms.specs.declared.places.Places.{Places}
+use Rattle.re_terms.proofs.Placed.{at_each-at, length-at_each}
 
 -- the word of a declaration whose word doesn't depend on others
 pub own_word : (p : Program) (cells : List Word) (view : View) (id : ℕ) (d : Decl) (w : Word) → slice_get p.decls.items id ≡ Some d → ((words : ℕ → Word) → body_word p.decls.items cells view id d.body words ≡ w) → w ≡ signal_word p cells view id

@@ -4,7 +4,7 @@ use Rattle.std.specs.List.{range_with_len}
 use Rattle.re_terms.specs.Listed.{plain}
 use Rattle.re_terms.specs.Cells.{cell_place}
 use Rattle.re_terms.specs.SignalWords.{replicated_place}
-use Rattle.re_device.proofs.places.Places.of.Given as goal
+use Rattle.re_terms.proofs.places.Places.of.Given as goal
 
 abbrev pub invariant-loop-decl : goal.invariant-loop-decl
 invariant-loop-decl l = record {

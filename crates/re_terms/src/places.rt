@@ -1,9 +1,9 @@
 //! Where the states of a program's cells stand.
 ghost use Rattle.std.specs.Prelude.{◌≡◌, ◌<◌, length, slice_index, slice_index_or, IfOk};
 ghost use Rattle.re_terms.specs.Programs.{IsProgram};
-ghost use Rattle.re_device.specs.Placing.{places_of};
+ghost use Rattle.re_terms.specs.Placing.{places_of};
 
-use re_terms::{Program, Seq};
+use crate::{Program, Seq};
 use std::alloc::{AllocError, Global};
 
 /// For each declaration how many vars and folds, and how many replicated cells, are declared before it. That is the place

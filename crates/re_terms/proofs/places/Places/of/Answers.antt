@@ -9,7 +9,7 @@ use Rattle.re_terms.specs.Listed.{Listed, plain}
 use Rattle.re_terms.specs.Programs.{is_replicated}
 use Rattle.re_terms.specs.Cells.{is_cell, cell_place}
 use Rattle.re_terms.specs.SignalWords.{replicated_place}
-use Rattle.re_unstored.proofs.places.Places.of.Goals as goal
+use Rattle.re_terms.proofs.places.Places.of.Goals as goal
 
 -- a place is pushed behind those of the declarations before
 pushed : (count : ℕ → ℕ) (i x : ℕ) (before after : Listed ℕ) → before ≡ plain (map count (range_with_len 0 i)) → x ≡ count i → after ≡ record { items = before.items ++ x ∷ []; spare = before.spare - 1 } → after ≡ plain (map count (range_with_len 0 (i + 1)))

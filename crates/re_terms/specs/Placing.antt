@@ -8,7 +8,7 @@ use Rattle.re_terms.specs.Programs.{is_replicated}
 use Rattle.re_terms.specs.Cells.{cell_place}
 use Rattle.re_terms.specs.SignalWords.{replicated_place}
 use Rattle.re_terms.specs.declared.program.Decl.{Decl}
-use Rattle.re_device.specs.declared.places.Places.{Places}
+use Rattle.re_terms.specs.declared.places.Places.{Places}
 
 -- a count for each declaration
 abbrev pub at_each : (List Decl → ℕ → ℕ) → List Decl → List ℕ
