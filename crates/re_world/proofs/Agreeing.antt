@@ -16,10 +16,6 @@ use Rattle.re_terms.specs.declared.program.Program.{Program}
 use Rattle.re_world.specs.Images.{OpensAfter}
 use Rattle.re_world.specs.Standing.{RestsAs}
 
--- a world has what it has of each device
-pub untouched_same : (d : ℕ) (w : World) → IsUntouched d w w
-untouched_same d w = record { base = refl; base_number = refl; settled = refl; unsettled = refl; in_doubt = refl; reads = refl; count = refl; stop = refl; up = refl }
-
 -- ---- what is carried from one world to the other
 
 -- files that open to the state after some entries do so in each world with the same start

@@ -18,7 +18,7 @@ use Rattle.re_record.specs.Restoring.{Opened, unopened}
 use Rattle.re_record.specs.Stores.{Blank, OpensTo}
 use Rattle.re_restore.specs.Opening.{StillOpens}
 use Rattle.re_terms.proofs.CausalSteps.{stepped}
-use Rattle.re_terms.proofs.WorldSteps.{others_kept, with_at-same}
+use Rattle.re_terms.proofs.WorldSteps.{others_kept, untouched_same, with_at-same}
 use Rattle.re_terms.specs.Admission.{device_count}
 use Rattle.re_terms.specs.CausalWorlds.{IsCausalWorld}
 use Rattle.re_terms.specs.DeviceWorlds.{Outcome, World, put_up, recovered, settled_number, world_after}
@@ -29,7 +29,6 @@ use Rattle.re_terms.specs.Runs.{StandsForPlain}
 use Rattle.re_terms.specs.Untouched.{IsUntouched}
 use Rattle.re_terms.specs.declared.command.Command.TheVariants as command
 use Rattle.re_terms.specs.declared.program.Program.{Program}
-use Rattle.re_world.proofs.Agreeing.{untouched_same}
 use Rattle.re_world.proofs.Committed.{standing_rests}
 use Rattle.re_world.proofs.Stepped.{world_behind}
 use Rattle.re_world.proofs.Within.{within_moves}

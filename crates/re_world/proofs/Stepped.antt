@@ -7,6 +7,7 @@ use Rattle.re_device.specs.Device.{DeviceState}
 use Rattle.re_outside.specs.Moment.{IsKept}
 use Rattle.re_outside.specs.Outside.{Seen}
 use Rattle.re_outside.specs.Port.{past_in}
+use Rattle.re_terms.proofs.WorldSteps.{untouched_same}
 use Rattle.re_terms.specs.Admission.{device_count}
 use Rattle.re_terms.specs.CausalWorlds.{IsCausalWorld}
 use Rattle.re_terms.specs.DeviceWorlds.{World, spelled}
@@ -14,7 +15,7 @@ use Rattle.re_terms.specs.Shapes.{FitsShape, shape_of}
 use Rattle.re_terms.specs.Untouched.{IsUntouched}
 use Rattle.re_terms.specs.UpdateStates.{state_of_updates}
 use Rattle.re_terms.specs.declared.program.Program.{Program}
-use Rattle.re_world.proofs.Agreeing.{device_agrees, rests_agree, untouched_same}
+use Rattle.re_world.proofs.Agreeing.{device_agrees, rests_agree}
 use Rattle.re_world.proofs.Kept.{stands_kept}
 use Rattle.re_world.specs.Standing.{HasDevice, IsWorldOf, RestsAs}
 use Rattle.re_world.specs.State.{WorldState, device_in}
