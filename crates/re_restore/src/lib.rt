@@ -2,6 +2,7 @@
 #![tactic(auto)]
 
 mod entries;
+pub mod laws;
 mod opening;
 mod records;
 mod replay;
