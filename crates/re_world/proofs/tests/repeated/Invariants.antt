@@ -2,5 +2,5 @@
 use Rattle.std.proofs.Common.{◌≡◌}
 use Rattle.re_world.proofs.tests.repeated.Given as goal
 
-abbrev pub invariant-loop-line : goal.invariant-loop-line
-invariant-loop-line g l = l.world.program ≡ l.program
+abbrev pub invariant-loop-time : goal.invariant-loop-time
+invariant-loop-time g l = l.world.program ≡ l.program
