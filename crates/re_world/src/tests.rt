@@ -420,7 +420,7 @@ fn entries_and_packets_have_a_greatest_count(rt: HostRuntime) -> Result<(), Fail
     let program = program(alloc, b"device a; device b; var x: int = 0;")?;
     assert!(rt; print_program(alloc, &program)?.len() <= 65_536);
     let mut out = outside(alloc, Seq::new(alloc))?;
-    let Ok(mut world) = World::new(alloc, &mut out, program.copy(alloc)?) else {
+    let Ok(mut devices) = World::new(alloc, &mut out, program.copy(alloc)?) else {
         panic!(rt; "the devices aren't opened");
     };
     let rows: [(&[u8], u16, &[u8]); 9] = [
@@ -435,7 +435,7 @@ fn entries_and_packets_have_a_greatest_count(rt: HostRuntime) -> Result<(), Fail
         (b"turn a x = 1", 1, b"ok 4097"),
     ];
     for row in rows {
-        repeated(&rt, alloc, &program, &mut world, &mut out, row)?;
+        repeated(&rt, alloc, &program, &mut devices, &mut out, row)?;
     }
     Ok(())
 }
