@@ -414,13 +414,31 @@ fn repeated(
     Ok(())
 }
 
+/// Does each of these commands so many times.
+fn all_repeated(
+    rt: &impl Abort,
+    alloc: Global,
+    program: &Program,
+    world: &mut World,
+    out: &mut MemoryWorld,
+    rows: &[(&[u8], u16, &[u8])],
+) -> Result<(), Fail>
+    requires program { IsProgram program.now }
+    requires same { world.old.program ≡ program.now }
+{
+    for (line, times, wanted) in rows {
+        repeated(rt, alloc, program, world, out, (*line, *times, *wanted))?;
+    }
+    Ok(())
+}
+
 #[test]
 fn entries_and_packets_have_a_greatest_count(rt: HostRuntime) -> Result<(), Fail> {
     let alloc = rt.alloc();
     let program = program(alloc, b"device a; device b; var x: int = 0;")?;
     assert!(rt; print_program(alloc, &program)?.len() <= 65_536);
     let mut out = outside(alloc, Seq::new(alloc))?;
-    let Ok(mut devices) = World::new(alloc, &mut out, program.copy(alloc)?) else {
+    let Ok(mut world) = World::new(alloc, &mut out, program.copy(alloc)?) else {
         panic!(rt; "the devices aren't opened");
     };
     let rows: [(&[u8], u16, &[u8]); 9] = [
@@ -434,8 +452,5 @@ fn entries_and_packets_have_a_greatest_count(rt: HostRuntime) -> Result<(), Fail
         (b"restart a", 1, b"up 4096"),
         (b"turn a x = 1", 1, b"ok 4097"),
     ];
-    for row in rows {
-        repeated(&rt, alloc, &program, &mut devices, &mut out, row)?;
-    }
-    Ok(())
+    all_repeated(&rt, alloc, &program, &mut world, &mut out, &rows)
 }
