@@ -170,6 +170,14 @@ impl World {
         }
     }
 
+    /// The program.
+    pub fn program(&self) -> &Program
+        ensures program { result.now ≡ self.now.program }
+        ensures is_program { IsProgram result.now }
+    {
+        &self.program
+    }
+
     /// The device with this number, none where it is down.
     pub fn device(&self, device: u8) -> Option<&Device>
         requires { device < device_count self.now.program.decls.items }

@@ -1,0 +1,4 @@
+pub mod Acts
+pub mod Begins
+pub mod LineAnswers
+pub mod Serving

@@ -1,0 +1,1 @@
+//! What follows from the definitions of the answers, for every program and every session.
