@@ -4,47 +4,58 @@ use Rattle.std.specs.Prelude.{if◌then◌else◌, ◌||◌}
 use Rattle.std.specs.List.{flat_map}
 use Rattle.std.proofs.lemmas.Bool.{lt-ltb, le-ltb, ltb-true}
 use Rattle.std.proofs.lemmas.List.{append_cancel_right}
-use Rattle.re_outside.specs.Outside.{Seen, Input, Output, Counts, Does, none}
-use Rattle.re_terms.specs.DeviceWorlds.{blank_world}
+use Rattle.re_compact.specs.declared.fault.OpenFault.{OpenFault}
+use Rattle.re_compact.specs.declared.fault.OpenFault.TheVariants as open
+use Rattle.re_outside.specs.Outside.{Breaks, Counts, Disk, Does, Input, IsAtEnd, Output, Rose, Seen, content_in, none}
+use Rattle.re_outside.specs.Port.{disk_faults}
+use Rattle.re_record.specs.Stores as stores
+use Rattle.re_record.specs.Stores.{HasStore, OpensTo, Stored}
+use Rattle.re_terms.specs.declared.program.Program.{Program}
+use Rattle.re_tool.specs.Acts.{Course, FailsNone, FindsUnopened, IsOpening, opens_none, reads, serves}
+use Rattle.re_session.specs.Acts.{DoneLine}
 use Rattle.re_tool.specs.declared.words.Job.{Job}
 use Rattle.re_tool.specs.declared.words.Job.TheVariants as job
 use Rattle.re_tool.specs.declared.faults.Refusal.{Refusal}
 use Rattle.re_tool.specs.declared.status.Status.{Status}
 use Rattle.re_tool.specs.declared.status.Status.TheVariants as status
-use Rattle.re_tool.specs.Answers.{Outcomes, answers, answers_by, ending_of, ending_in, ending_with, behind_part, reading_end}
+use Rattle.re_tool.specs.Answers.{Outcomes, Session, behind_part, ending, ending_by, ending_in, ending_of, ending_with, reading_end, unopened_end}
 use Rattle.re_tool.specs.Endings.{Ending, Done, RefusedProgram, InputFault, NoMemory, InputTooLong, status_at}
-use Rattle.re_tool.specs.Causes.{IsUnlessEnded, InputCause, OutputCause, EndCause, IsRead, TooMuch, TooLongCause, IsRefusedPart, ProgramCause, Completes}
+use Rattle.re_tool.specs.Causes.{Completes, EndCause, FindsStore, InputCause, IsAcceptedPart, IsRead, IsRefusedPart, IsUnlessEnded, OpeningCause, OutputCause, ProgramCause, TooLongCause, TooMuch}
 use Rattle.re_tool.specs.Lines.{split, ended}
 use Rattle.re_tool.specs.Part.{Part, divided, part_of, part_by, is_over}
 use Rattle.re_tool.specs.Reads.{limit}
-use Rattle.re_tool.specs.Session.{Runs, Finishes, Refuses, one_if, is_output, faults_of}
+use Rattle.re_tool.specs.Session.{Closes, EndsAs, Finishes, Halts, HasSeparator, Refuses, Runs, is_output, one_if}
 use Rattle.re_outside.proofs.Does.{does-nil, breaks_does}
-use Rattle.re_tool.proofs.Ends.{stops_none, ends_output}
+use Rattle.re_tool.proofs.Endings.{content_on}
+use Rattle.re_tool.proofs.Ends.{Ran, ran_breaks, ran_goes, ran_says}
+use Rattle.re_world.specs.Opening.{OpenBefore}
+use Rattle.re_session.specs.Serving.{Goes}
+use Rattle.re_session.proofs.Acting.{goes_nil}
 use Rattle.re_tool.specs.Verdict.{Verdict, Unknown, Rejected, Accepted, HasVerdict, Decides, IsJudged}
 
 -- the status of a job that isn't cut short
-abbrev status_of : Job → Verdict → List ℕ → Bool → Status
-status_of j v read failed = status_at (ending_of j v read failed)
+abbrev status_of : Job → Verdict → Outcomes → List ℕ → Status
+status_of j v o read = status_at (ending_of j v o.unopened read o.input_failed)
 
--- how the answers end
-answers_end : (j : Job) (v : Verdict) (read : List ℕ) (o : Outcomes) → ((answers j v blank_world read o).1 ≡ NoMemory) ⊎ ((answers j v blank_world read o).1 ≡ ending_of j v read o.input_failed)
-answers_end j v read o =
-    elim o.stopped as (λ x. ((answers_by x j v blank_world read o.commands o.input_failed).1 ≡ NoMemory) ⊎ ((answers_by x j v blank_world read o.commands o.input_failed).1 ≡ ending_of j v read o.input_failed))
+-- how a run ends
+ending_cases : (j : Job) (v : Verdict) (read : List ℕ) (o : Outcomes) → (ending j v read o ≡ NoMemory) ⊎ (ending j v read o ≡ ending_of j v o.unopened read o.input_failed)
+ending_cases j v read o =
+    elim o.stopped as (λ x. (ending_by x j v o.unopened read o.input_failed ≡ NoMemory) ⊎ (ending_by x j v o.unopened read o.input_failed ≡ ending_of j v o.unopened read o.input_failed))
     [ None ↦ inr refl | Some p ↦ inl refl ]
 
 -- what the status of a run is
-told_status : (j : Job) (a b : Seen) (s : Status) (r : Runs j a b s) → (s ≡ status.Output) ⊎ (status_at (answers j r.verdict blank_world r.read r.outcomes).1 ≡ s)
-told_status j a b status.Output r = inl refl
-told_status j a b status.Done r = inr r.tells.1
-told_status j a b status.Words r = inr r.tells.1
-told_status j a b status.Program r = inr r.tells.1
-told_status j a b status.Store r = inr r.tells.1
-told_status j a b status.OtherProgram r = inr r.tells.1
-told_status j a b status.Disk r = inr r.tells.1
-told_status j a b status.Input r = inr r.tells.1
-told_status j a b status.Memory r = inr r.tells.1
-told_status j a b status.TooLong r = inr r.tells.1
-told_status j a b status.Line r = inr r.tells.1
+told_status : (e : Ending) (s : Status) → EndsAs e s → (s ≡ status.Output) ⊎ (status_at e ≡ s)
+told_status e status.Output h = inl refl
+told_status e status.Done h = inr h
+told_status e status.Words h = inr h
+told_status e status.Program h = inr h
+told_status e status.Store h = inr h
+told_status e status.OtherProgram h = inr h
+told_status e status.Disk h = inr h
+told_status e status.Input h = inr h
+told_status e status.Memory h = inr h
+told_status e status.TooLong h = inr h
+told_status e status.Line h = inr h
 
 joined : (x y : Ending) (s : Status) → (x ≡ NoMemory) ⊎ (x ≡ y) → (s ≡ status.Output) ⊎ (status_at x ≡ s) → IsUnlessEnded (status_at y) s
 joined x y s p (inl h) = inr (inr h)
@@ -52,33 +63,50 @@ joined x y s (inl m) (inr h) = inr (inl (sym h ∙ ap status_at m))
 joined x y s (inr k) (inr h) = inl (sym h ∙ ap status_at k)
 
 -- a run ends with the status of what it read, unless memory or output ended it
-ends_with : (j : Job) (a b : Seen) (s : Status) (r : Runs j a b s) → IsUnlessEnded (status_of j r.verdict r.read r.outcomes.input_failed) s
-ends_with j a b s r = joined (answers j r.verdict blank_world r.read r.outcomes).1 (ending_of j r.verdict r.read r.outcomes.input_failed) s (answers_end j r.verdict r.read r.outcomes) (told_status j a b s r)
+ends_with : (j : Job) (a b : Seen) (s : Status) (r : Runs j a b s) → IsUnlessEnded (status_of j r.verdict r.outcomes r.read) s
+ends_with j a b s r = joined (ending j r.verdict r.read r.outcomes) (ending_of j r.verdict r.outcomes.unopened r.read r.outcomes.input_failed) s (ending_cases j r.verdict r.read r.outcomes) (told_status _ s r.ends)
 
 -- the status is that of what was read where it is neither for want of memory nor of output
-status_read : (j : Job) (a b : Seen) (s : Status) (r : Runs j a b s) → (s ≡ status.Memory → ⊥) → (s ≡ status.Output → ⊥) → status_of j r.verdict r.read r.outcomes.input_failed ≡ s
+status_read : (j : Job) (a b : Seen) (s : Status) (r : Runs j a b s) → (s ≡ status.Memory → ⊥) → (s ≡ status.Output → ⊥) → status_of j r.verdict r.outcomes r.read ≡ s
 status_read j a b s r m o = only (ends_with j a b s r)
   where
-    only : IsUnlessEnded (status_of j r.verdict r.read r.outcomes.input_failed) s → status_of j r.verdict r.read r.outcomes.input_failed ≡ s
+    only : IsUnlessEnded (status_of j r.verdict r.outcomes r.read) s → status_of j r.verdict r.outcomes r.read ≡ s
     only (inl h) = sym h
     only (inr (inl h)) = absurd (m h)
     only (inr (inr h)) = absurd (o h)
 
 -- ---- status 7
 
-with_verdict : (v : Verdict) (s : Ending) (r : Status) → status_at (ending_with v s) ≡ r → (r ≡ status.Program → ⊥) → status_at s ≡ r
-with_verdict Unknown s r h n = h
-with_verdict (Rejected why) s r h n = absurd (n (sym h))
-with_verdict (Accepted p) s r h n = h
+-- the statuses of devices that don't open
+abbrev IsOfOpening : Status → Type 0
+IsOfOpening s = (s ≡ status.Memory) ⊎ ((s ≡ status.Disk) ⊎ ((s ≡ status.Store) ⊎ (s ≡ status.OtherProgram)))
+
+unopened_status : (p : Program) (u : ℕ × OpenFault) → IsOfOpening (status_at (unopened_end p u))
+unopened_status p (d, open.Memory) = inl refl
+unopened_status p (d, open.Disk) = inr (inl refl)
+unopened_status p (d, open.BadStore file at) = inr (inr (inl refl))
+unopened_status p (d, open.OtherProgram) = inr (inr (inr refl))
+
+with_verdict : (v : Verdict) (u : Option (ℕ × OpenFault)) (s : Ending) (r : Status) → status_at (ending_with v u s) ≡ r → (r ≡ status.Program → ⊥) → (IsOfOpening r → ⊥) → status_at s ≡ r
+with_verdict Unknown u s r h n o = h
+with_verdict (Rejected why) u s r h n o = absurd (n (sym h))
+with_verdict (Accepted p) None s r h n o = h
+with_verdict (Accepted p) (Some u) s r h n o = absurd (o (subst IsOfOpening h (unopened_status p u)))
 
 -- behind the program part a job goes on or is done
 in_behind : (j : Job) (s : Ending) (r : Status) → status_at (behind_part j s) ≡ r → (r ≡ status.Done → ⊥) → status_at s ≡ r
 in_behind job.Run s r h n = h
 in_behind job.Check s r h n = absurd (n (sym h))
 
-in_part : (j : Job) (v : Verdict) (part : Option Part) (s : Ending) (r : Status) → status_at (ending_in j v part s) ≡ r → (r ≡ status.Program → ⊥) → (r ≡ status.Done → ⊥) → status_at s ≡ r
-in_part j v None s r h n m = h
-in_part j v (Some part) s r h n m = in_behind j s r (with_verdict v (behind_part j s) r h n) m
+in_part : (j : Job) (v : Verdict) (u : Option (ℕ × OpenFault)) (part : Option Part) (s : Ending) (r : Status) → status_at (ending_in j v u part s) ≡ r → (r ≡ status.Program → ⊥) → (r ≡ status.Done → ⊥) → (IsOfOpening r → ⊥) → status_at s ≡ r
+in_part j v u None s r h n m o = h
+in_part j v u (Some part) s r h n m o = in_behind j s r (with_verdict v u (behind_part j s) r h n o) m
+
+no_opening : (r : Status) → (r ≡ status.Memory → ⊥) → (r ≡ status.Disk → ⊥) → (r ≡ status.Store → ⊥) → (r ≡ status.OtherProgram → ⊥) → IsOfOpening r → ⊥
+no_opening r m d s o (inl h) = m h
+no_opening r m d s o (inr (inl h)) = d h
+no_opening r m d s o (inr (inr (inl h))) = s h
+no_opening r m d s o (inr (inr (inr h))) = o h
 
 ending_input : (over failed : Bool) → status_at (if over then InputTooLong else if failed then InputFault else Done) ≡ status.Input → failed ≡ true
 ending_input true failed h = absurd (cc)
@@ -92,14 +120,14 @@ ending_long false false h = absurd (cc)
 
 at_input : (j : Job) (a b : Seen) → Runs j a b status.Input → Counts 1 (a.faults Input) (b.faults Input)
 at_input j a b r =
-    let e = in_part j r.verdict (part_of r.read r.outcomes.input_failed) (reading_end r.read r.outcomes.input_failed) status.Input (status_read j a b status.Input r (λ h. absurd (cc)) (λ h. absurd (cc))) (λ h. absurd (cc)) (λ h. absurd (cc)) in
-    subst (λ f. Counts (one_if f) (a.faults Input) (b.faults Input)) (ending_input (is_over r.read) r.outcomes.input_failed e) (r.does.moves.counts Input)
+    let e = in_part j r.verdict r.outcomes.unopened (part_of r.read r.outcomes.input_failed) (reading_end r.read r.outcomes.input_failed) status.Input (status_read j a b status.Input r (λ h. absurd (cc)) (λ h. absurd (cc))) (λ h. absurd (cc)) (λ h. absurd (cc)) (no_opening status.Input (λ h. absurd (cc)) (λ h. absurd (cc)) (λ h. absurd (cc)) (λ h. absurd (cc))) in
+    subst (λ n. Counts n (a.faults Input) (b.faults Input)) (r.input ∙ ap one_if (ending_input (is_over r.read) r.outcomes.input_failed e)) (r.does.moves.counts Input)
 
 pub input_cause : (j : Job) (a b : Seen) (s : Status) → Runs j a b s → InputCause a b s
 input_cause j a b s r h = at_input j a b (subst (Runs j a b) h r)
 
 pub output_cause : (j : Job) (a b : Seen) (s : Status) → Runs j a b s → OutputCause a b s
-output_cause j a b s r = r.does.moves.counts Output
+output_cause j a b s r = subst (λ n. Counts n (a.faults Output) (b.faults Output)) r.output (r.does.moves.counts Output)
 
 at_done : (j : Job) (a b : Seen) → Runs j a b status.Done → IsRead j a b
 at_done job.Run a b r = r.far
@@ -112,43 +140,54 @@ end_cause j a b s r h = at_done j a b (subst (Runs j a b) h r)
 
 at_too_long : (j : Job) (a b : Seen) → Runs j a b status.TooLong → a.told ≡ true → TooMuch a b
 at_too_long j a b r t =
-    let e = in_part j r.verdict (part_of r.read r.outcomes.input_failed) (reading_end r.read r.outcomes.input_failed) status.TooLong (status_read j a b status.TooLong r (λ h. absurd (cc)) (λ h. absurd (cc))) (λ h. absurd (cc)) (λ h. absurd (cc)) in
+    let e = in_part j r.verdict r.outcomes.unopened (part_of r.read r.outcomes.input_failed) (reading_end r.read r.outcomes.input_failed) status.TooLong (status_read j a b status.TooLong r (λ h. absurd (cc)) (λ h. absurd (cc))) (λ h. absurd (cc)) (λ h. absurd (cc)) (no_opening status.TooLong (λ h. absurd (cc)) (λ h. absurd (cc)) (λ h. absurd (cc)) (λ h. absurd (cc))) in
     let long = ltb-true limit (length r.read) (ending_long (is_over r.read) r.outcomes.input_failed e) in
     omega (arith, ap length (r.does.moves.left t), length-append r.read b.left)
 
 over_ending : (read : List ℕ) (failed : Bool) → limit < length read → reading_end read failed ≡ InputTooLong
 over_ending read failed h = rw (lt-ltb limit (length read) h) refl
 
-with_over : (v : Verdict) (s : Ending) → (status_at (ending_with v s) ≡ status.Program) ⊎ (ending_with v s ≡ s)
-with_over Unknown s = inr refl
-with_over (Rejected why) s = inl refl
-with_over (Accepted p) s = inr refl
+-- how a run ends that read past its program part: for the part, for a device, or as its reading did
+abbrev EndsBehind : Job → Ending → Ending → Type 0
+EndsBehind j e s = (status_at e ≡ status.Program) ⊎ (IsOfOpening (status_at e) ⊎ ((e ≡ s) ⊎ ((j ≡ job.Check) × (e ≡ Done))))
 
-in_over : (j : Job) (v : Verdict) (part : Option Part) (s : Ending) → (status_at (ending_in j v part s) ≡ status.Program) ⊎ ((ending_in j v part s ≡ s) ⊎ ((j ≡ job.Check) × (ending_in j v part s ≡ Done)))
-in_over j v None s = inr (inl refl)
-in_over job.Run v (Some part) s = either (with_over v s)
-  where
-    either : (status_at (ending_with v s) ≡ status.Program) ⊎ (ending_with v s ≡ s) → (status_at (ending_with v s) ≡ status.Program) ⊎ ((ending_with v s ≡ s) ⊎ ((job.Run ≡ job.Check) × (ending_with v s ≡ Done)))
-    either (inl h) = inl h
-    either (inr h) = inr (inl h)
-in_over job.Check v (Some part) s = either (with_over v Done)
-  where
-    either : (status_at (ending_with v Done) ≡ status.Program) ⊎ (ending_with v Done ≡ Done) → (status_at (ending_with v Done) ≡ status.Program) ⊎ ((ending_with v Done ≡ s) ⊎ ((job.Check ≡ job.Check) × (ending_with v Done ≡ Done)))
-    either (inl h) = inl h
-    either (inr h) = inr (inr (refl, h))
+with_over : (j : Job) (v : Verdict) (u : Option (ℕ × OpenFault)) (s : Ending) → EndsBehind j (ending_with v u s) s
+with_over j Unknown u s = inr (inr (inl refl))
+with_over j (Rejected why) u s = inl refl
+with_over j (Accepted p) None s = inr (inr (inl refl))
+with_over j (Accepted p) (Some u) s = inr (inl (unopened_status p u))
 
-few_at : (j : Job) (a b : Seen) (s : Status) (r : Runs j a b s) → s ≡ status.Program → length r.read ≤ limit
+in_over : (j : Job) (v : Verdict) (u : Option (ℕ × OpenFault)) (part : Option Part) (s : Ending) → EndsBehind j (ending_in j v u part s) s
+in_over j v u None s = inr (inr (inl refl))
+in_over job.Run v u (Some part) s = with_over job.Run v u s
+in_over job.Check v u (Some part) s = either (with_over job.Check v u Done)
+  where
+    either : EndsBehind job.Check (ending_with v u Done) Done → EndsBehind job.Check (ending_with v u Done) s
+    either (inl h) = inl h
+    either (inr (inl h)) = inr (inl h)
+    either (inr (inr (inl h))) = inr (inr (inr (refl, h)))
+    either (inr (inr (inr h))) = inr (inr (inr h))
+
+-- the statuses at which no byte too many was read
+abbrev IsFew : Status → Type 0
+IsFew status.Program = Unit {0}
+IsFew status.Disk = Unit {0}
+IsFew status.Store = Unit {0}
+IsFew status.OtherProgram = Unit {0}
+IsFew s = ⊥
+
+few_at : (j : Job) (a b : Seen) (s : Status) (r : Runs j a b s) → IsFew s → length r.read ≤ limit
 few_at j a b status.Program r h = r.far.0
-few_at j a b status.Done r h = absurd (cc)
-few_at j a b status.Words r h = absurd (cc)
-few_at j a b status.Store r h = absurd (cc)
-few_at j a b status.OtherProgram r h = absurd (cc)
-few_at j a b status.Disk r h = absurd (cc)
-few_at j a b status.Input r h = absurd (cc)
-few_at j a b status.Output r h = absurd (cc)
-few_at j a b status.Memory r h = absurd (cc)
-few_at j a b status.TooLong r h = absurd (cc)
-few_at j a b status.Line r h = absurd (cc)
+few_at j a b status.Disk r h = r.far.0
+few_at j a b status.Store r h = r.far.0
+few_at j a b status.OtherProgram r h = r.far.0
+few_at j a b status.Done r h = absurd h
+few_at j a b status.Words r h = absurd h
+few_at j a b status.Input r h = absurd h
+few_at j a b status.Output r h = absurd h
+few_at j a b status.Memory r h = absurd h
+few_at j a b status.TooLong r h = absurd h
+few_at j a b status.Line r h = absurd h
 
 few_checked : (j : Job) (a b : Seen) (s : Status) (r : Runs j a b s) → j ≡ job.Check → s ≡ status.Done → length r.read ≤ limit
 few_checked job.Run a b s r h k = absurd (cc)
@@ -165,18 +204,23 @@ few_checked job.Check a b status.TooLong r h k = absurd (cc)
 few_checked job.Check a b status.Line r h k = absurd (cc)
 
 too_long_always : (j : Job) (a b : Seen) (s : Status) → (r : Runs j a b s) → a.told ≡ true → TooMuch a b → IsUnlessEnded status.TooLong s
-too_long_always j a b s r t h = by_end (ends_with j a b s r) (in_over j r.verdict (part_of r.read r.outcomes.input_failed) (reading_end r.read r.outcomes.input_failed))
+too_long_always j a b s r t h = by_end (ends_with j a b s r) (in_over j r.verdict r.outcomes.unopened (part_of r.read r.outcomes.input_failed) (reading_end r.read r.outcomes.input_failed))
   where
     long : limit < length r.read
     long = omega (arith, ap length (r.does.moves.left t), length-append r.read b.left)
 
-    by_end : IsUnlessEnded (status_of j r.verdict r.read r.outcomes.input_failed) s
-        → (status_of j r.verdict r.read r.outcomes.input_failed ≡ status.Program) ⊎ ((ending_of j r.verdict r.read r.outcomes.input_failed ≡ reading_end r.read r.outcomes.input_failed) ⊎ ((j ≡ job.Check) × (ending_of j r.verdict r.read r.outcomes.input_failed ≡ Done)))
-        → IsUnlessEnded status.TooLong s
+    of_opening : IsOfOpening s → IsUnlessEnded status.TooLong s
+    of_opening (inl e) = inr (inl e)
+    of_opening (inr (inl e)) = absurd (omega (arith, long, few_at j a b s r (subst IsFew (sym e) tt)))
+    of_opening (inr (inr (inl e))) = absurd (omega (arith, long, few_at j a b s r (subst IsFew (sym e) tt)))
+    of_opening (inr (inr (inr e))) = absurd (omega (arith, long, few_at j a b s r (subst IsFew (sym e) tt)))
+
+    by_end : IsUnlessEnded (status_of j r.verdict r.outcomes r.read) s → EndsBehind j (ending_of j r.verdict r.outcomes.unopened r.read r.outcomes.input_failed) (reading_end r.read r.outcomes.input_failed) → IsUnlessEnded status.TooLong s
     by_end (inr e) k = inr e
-    by_end (inl e) (inr (inl k)) = inl (e ∙ ap status_at (k ∙ over_ending r.read r.outcomes.input_failed long))
-    by_end (inl e) (inr (inr k)) = absurd (omega (arith, long, few_checked j a b s r k.0 (e ∙ ap status_at k.1)))
-    by_end (inl e) (inl k) = absurd (omega (arith, long, few_at j a b s r (e ∙ k)))
+    by_end (inl e) (inl k) = absurd (omega (arith, long, few_at j a b s r (subst IsFew (sym (e ∙ k)) tt)))
+    by_end (inl e) (inr (inl k)) = of_opening (subst IsOfOpening (sym e) k)
+    by_end (inl e) (inr (inr (inl k))) = inl (e ∙ ap status_at (k ∙ over_ending r.read r.outcomes.input_failed long))
+    by_end (inl e) (inr (inr (inr k))) = absurd (omega (arith, long, few_checked j a b s r k.0 (e ∙ ap status_at k.1)))
 
 pub too_long_cause : (j : Job) (a b : Seen) (s : Status) → Runs j a b s → TooLongCause a b s
 too_long_cause j a b s r = record {
@@ -192,29 +236,36 @@ ending_program false true h = cc
 ending_program false false h = cc
 
 -- a part that ends the run is refused
-pub record IsRefusedIn (j : Job) (v : Verdict) (read : List ℕ) (failed : Bool) : Type 0 where
+pub record IsRefusedIn (v : Verdict) (read : List ℕ) (failed : Bool) : Type 0 where
   pub part : Part
   pub is_part : part_of read failed ≡ Some part
   pub why : Refusal
-  pub refused : HasVerdict j part.text (Rejected why)
+  pub refused : HasVerdict part.text (Rejected why)
 
-refused_with : (j : Job) (v : Verdict) (read : List ℕ) (failed : Bool) (part : Part) (s : Ending) (stopped : Option (ℕ × Bool)) → part_of read failed ≡ Some part → IsJudged j v (Some part) stopped → status_at (ending_with v s) ≡ status.Program → (status_at s ≡ status.Program → ⊥) → IsRefusedIn j v read failed
-refused_with j Unknown read failed part s stopped is q h n = absurd (n h)
-refused_with j (Accepted p) read failed part s stopped is q h n = absurd (n h)
-refused_with j (Rejected why) read failed part s stopped is (inl q) h n = record { part = part; is_part = is; why = why; refused = q.has }
-refused_with j (Rejected why) read failed part s stopped is (inr q) h n = let k = q.0 in absurd (cc)
+unopened_program : (p : Program) (u : ℕ × OpenFault) → status_at (unopened_end p u) ≡ status.Program → ⊥
+unopened_program p (d, open.Memory) h = cc
+unopened_program p (d, open.Disk) h = cc
+unopened_program p (d, open.BadStore file at) h = cc
+unopened_program p (d, open.OtherProgram) h = cc
+
+refused_with : (v : Verdict) (u : Option (ℕ × OpenFault)) (read : List ℕ) (failed : Bool) (part : Part) (s : Ending) (stopped : Option (ℕ × Bool)) → part_of read failed ≡ Some part → IsJudged v (Some part) stopped → status_at (ending_with v u s) ≡ status.Program → (status_at s ≡ status.Program → ⊥) → IsRefusedIn v read failed
+refused_with Unknown u read failed part s stopped is q h n = absurd (n h)
+refused_with (Accepted p) None read failed part s stopped is q h n = absurd (n h)
+refused_with (Accepted p) (Some u) read failed part s stopped is q h n = absurd (unopened_program p u h)
+refused_with (Rejected why) u read failed part s stopped is (inl q) h n = record { part = part; is_part = is; why = why; refused = q.has }
+refused_with (Rejected why) u read failed part s stopped is (inr q) h n = let k = q.0 in absurd (cc)
 
 behind_program : (j : Job) (s : Ending) → (status_at s ≡ status.Program → ⊥) → status_at (behind_part j s) ≡ status.Program → ⊥
 behind_program job.Run s n h = n h
 behind_program job.Check s n h = cc
 
-refused_in : (j : Job) (v : Verdict) (read : List ℕ) (failed : Bool) (part : Option Part) (stopped : Option (ℕ × Bool)) → part_of read failed ≡ part → IsJudged j v part stopped → status_at (ending_in j v part (reading_end read failed)) ≡ status.Program → IsRefusedIn j v read failed
-refused_in j v read failed None stopped is q h = absurd (ending_program (is_over read) failed h)
-refused_in j v read failed (Some part) stopped is q h = refused_with j v read failed part (behind_part j (reading_end read failed)) stopped is q h (behind_program j (reading_end read failed) (ending_program (is_over read) failed))
+refused_in : (j : Job) (v : Verdict) (u : Option (ℕ × OpenFault)) (read : List ℕ) (failed : Bool) (part : Option Part) (stopped : Option (ℕ × Bool)) → part_of read failed ≡ part → IsJudged v part stopped → status_at (ending_in j v u part (reading_end read failed)) ≡ status.Program → IsRefusedIn v read failed
+refused_in j v u read failed None stopped is q h = absurd (ending_program (is_over read) failed h)
+refused_in j v u read failed (Some part) stopped is q h = refused_with v u read failed part (behind_part j (reading_end read failed)) stopped is q h (behind_program j (reading_end read failed) (ending_program (is_over read) failed))
 
-at_program : (j : Job) (a b : Seen) → Runs j a b status.Program → a.told ≡ true → IsRefusedPart j a b
+at_program : (j : Job) (a b : Seen) → Runs j a b status.Program → a.told ≡ true → IsRefusedPart a b
 at_program j a b r t =
-    let n = refused_in j r.verdict r.read r.outcomes.input_failed (part_of r.read r.outcomes.input_failed) r.outcomes.stopped refl r.judged (status_read j a b status.Program r (λ h. absurd (cc)) (λ h. absurd (cc))) in
+    let n = refused_in j r.verdict r.outcomes.unopened r.read r.outcomes.input_failed (part_of r.read r.outcomes.input_failed) r.outcomes.stopped refl r.judged (status_read j a b status.Program r (λ h. absurd (cc)) (λ h. absurd (cc))) in
     record {
       read = r.read;
       left = r.does.moves.left t;
@@ -227,23 +278,23 @@ at_program j a b r t =
     }
 
 -- a run that stopped before its first line ends for want of memory, unless the output failed
-stopped_status : (j : Job) (v : Verdict) (read : List ℕ) (o : Outcomes) (n : ℕ × Bool) → o.stopped ≡ Some n → (answers j v blank_world read o).1 ≡ NoMemory
-stopped_status j v read o n h = ap (λ x. (answers_by x j v blank_world read o.commands o.input_failed).1) h
+stopped_status : (j : Job) (v : Verdict) (read : List ℕ) (o : Outcomes) (n : ℕ × Bool) → o.stopped ≡ Some n → ending j v read o ≡ NoMemory
+stopped_status j v read o n h = ap (λ x. ending_by x j v o.unopened read o.input_failed) h
 
 -- a verdict on a part that is refused ends the run
-refused_status_with : (j : Job) (v : Verdict) (text : List ℕ) (why : Refusal) (s : Ending) → Decides j text v → HasVerdict j text (Rejected why) → status_at (ending_with v s) ≡ status.Program
-refused_status_with j Unknown text why s d h = absurd d.has
-refused_status_with j (Rejected other) text why s d h = refl
-refused_status_with j (Accepted p) text why s d h = let e : Rejected why ≡ Accepted p = d.only (Rejected why) h in absurd (cc)
+refused_status_with : (v : Verdict) (u : Option (ℕ × OpenFault)) (text : List ℕ) (why : Refusal) (s : Ending) → Decides text v → HasVerdict text (Rejected why) → status_at (ending_with v u s) ≡ status.Program
+refused_status_with Unknown u text why s d h = absurd d.has
+refused_status_with (Rejected other) u text why s d h = refl
+refused_status_with (Accepted p) u text why s d h = let e : Rejected why ≡ Accepted p = d.only (Rejected why) h in absurd (cc)
 
 -- where the part that was read is refused, the run ends with 3
-refused_by : (j : Job) (a b : Seen) (s : Status) (r : Runs j a b s) (part : Part) (why : Refusal) → part_of r.read r.outcomes.input_failed ≡ Some part → HasVerdict j part.text (Rejected why) → IsUnlessEnded status.Program s
-refused_by j a b s r part why is h = by (subst (λ x. IsJudged j r.verdict x r.outcomes.stopped) is r.judged)
+refused_by : (j : Job) (a b : Seen) (s : Status) (r : Runs j a b s) (part : Part) (why : Refusal) → part_of r.read r.outcomes.input_failed ≡ Some part → HasVerdict part.text (Rejected why) → IsUnlessEnded status.Program s
+refused_by j a b s r part why is h = by (subst (λ x. IsJudged r.verdict x r.outcomes.stopped) is r.judged)
   where
-    by : IsJudged j r.verdict (Some part) r.outcomes.stopped → IsUnlessEnded status.Program s
-    by (inr q) = joined (answers j r.verdict blank_world r.read r.outcomes).1 (RefusedProgram why) s (inl (stopped_status j r.verdict r.read r.outcomes (0, true) q.1)) (told_status j a b s r)
+    by : IsJudged r.verdict (Some part) r.outcomes.stopped → IsUnlessEnded status.Program s
+    by (inr q) = joined (ending j r.verdict r.read r.outcomes) (RefusedProgram why) s (inl (stopped_status j r.verdict r.read r.outcomes (0, true) q.1)) (told_status _ s r.ends)
     by (inl q) =
-        let e : status_of j r.verdict r.read r.outcomes.input_failed ≡ status.Program = ap (λ x. status_at (ending_in j r.verdict x (reading_end r.read r.outcomes.input_failed))) is ∙ refused_status_with j r.verdict part.text why (behind_part j (reading_end r.read r.outcomes.input_failed)) q h in
+        let e : status_of j r.verdict r.outcomes r.read ≡ status.Program = ap (λ x. status_at (ending_in j r.verdict r.outcomes.unopened x (reading_end r.read r.outcomes.input_failed))) is ∙ refused_status_with r.verdict r.outcomes.unopened part.text why (behind_part j (reading_end r.read r.outcomes.input_failed)) q h in
         subst (λ x. IsUnlessEnded x s) e (ends_with j a b s r)
 
 -- a separator that was read
@@ -251,7 +302,7 @@ separated_part : (read : List ℕ) (failed : Bool) (front back : List (List ℕ)
     → part_of read failed ≡ part_by (split (take limit read)).0 (split (take limit read)).1 (is_over read || failed) (Some (front, back))
 separated_part read failed front back h = ap (part_by (split (take limit read)).0 (split (take limit read)).1 (is_over read || failed)) h
 
-program_always : (j : Job) (a b : Seen) (s : Status) → Runs j a b s → (read : List ℕ) (why : Refusal) (front back : List (List ℕ)) → a.told ≡ true → a.left ≡ read ++ b.left → divided (split (take limit read)).0 ≡ Some (front, back) → HasVerdict j (flat_map ended front) (Rejected why) → IsUnlessEnded status.Program s
+program_always : (j : Job) (a b : Seen) (s : Status) → Runs j a b s → (read : List ℕ) (why : Refusal) (front back : List (List ℕ)) → a.told ≡ true → a.left ≡ read ++ b.left → divided (split (take limit read)).0 ≡ Some (front, back) → HasVerdict (flat_map ended front) (Rejected why) → IsUnlessEnded status.Program s
 program_always j a b s r read why front back t left h refused =
     let same : read ≡ r.read = append_cancel_right read r.read b.left (sym left ∙ r.does.moves.left t) in
     refused_by j a b s r _ why (separated_part r.read r.outcomes.input_failed front back (ap (λ x. divided (split (take limit x)).0) (sym same) ∙ h)) refused
@@ -278,7 +329,7 @@ one_text read x y h k =
     text_by parts.0 parts.1 (is_over read || false) (divided parts.0) x y (ap (λ c. part_by parts.0 parts.1 c (divided parts.0)) (sym (or_true (is_over read))) ∙ h) k
 
 -- a run whose input is refused ends with 3, or with 7 where the input failed
-refused_at_end : (j : Job) (a b : Seen) (s : Status) (r : Runs j a b s) (part : Part) (why : Refusal) → length r.read ≤ limit → part_of r.read false ≡ Some part → HasVerdict j part.text (Rejected why) → (failed : Bool) → r.outcomes.input_failed ≡ failed
+refused_at_end : (j : Job) (a b : Seen) (s : Status) (r : Runs j a b s) (part : Part) (why : Refusal) → length r.read ≤ limit → part_of r.read false ≡ Some part → HasVerdict part.text (Rejected why) → (failed : Bool) → r.outcomes.input_failed ≡ failed
     → IsUnlessEnded status.Program s ⊎ (s ≡ status.Input)
 refused_at_end j a b s r part why few is h false e = inl (refused_by j a b s r part why (ap (part_of r.read) e ∙ is) h)
 refused_at_end j a b s r part why few is h true e = failing (part_of r.read r.outcomes.input_failed) refl
@@ -288,34 +339,241 @@ refused_at_end j a b s r part why few is h true e = failing (part_of r.read r.ou
     unless_input (inr q) = inl (inr q)
 
     failing : (o : Option Part) → part_of r.read r.outcomes.input_failed ≡ o → IsUnlessEnded status.Program s ⊎ (s ≡ status.Input)
-    failing None q = unless_input (subst (λ x. IsUnlessEnded x s) (ap (λ x. status_at (ending_in j r.verdict x (reading_end r.read r.outcomes.input_failed))) q ∙ ap (λ f. status_at (reading_end r.read f)) e ∙ ap status_at (input_ends r.read few)) (ends_with j a b s r))
-    failing (Some x) q = inl (refused_by j a b s r x why q (subst (λ t. HasVerdict j t (Rejected why)) (one_text r.read x part (ap (part_of r.read) (sym e) ∙ q) is) h))
+    failing None q = unless_input (subst (λ x. IsUnlessEnded x s) (ap (λ x. status_at (ending_in j r.verdict r.outcomes.unopened x (reading_end r.read r.outcomes.input_failed))) q ∙ ap (λ f. status_at (reading_end r.read f)) e ∙ ap status_at (input_ends r.read few)) (ends_with j a b s r))
+    failing (Some x) q = inl (refused_by j a b s r x why q (subst (λ t. HasVerdict t (Rejected why)) (one_text r.read x part (ap (part_of r.read) (sym e) ∙ q) is) h))
 
-program_at_end : (j : Job) (a b : Seen) (s : Status) → Runs j a b s → (read : List ℕ) (why : Refusal) (part : Part) → a.told ≡ true → a.left ≡ read ++ b.left → length read ≤ limit → part_of read false ≡ Some part → HasVerdict j part.text (Rejected why)
+program_at_end : (j : Job) (a b : Seen) (s : Status) → Runs j a b s → (read : List ℕ) (why : Refusal) (part : Part) → a.told ≡ true → a.left ≡ read ++ b.left → length read ≤ limit → part_of read false ≡ Some part → HasVerdict part.text (Rejected why)
     → IsUnlessEnded status.Program s ⊎ (s ≡ status.Input)
 program_at_end j a b s r read why part t left few is refused =
     let same : read ≡ r.read = append_cancel_right read r.read b.left (sym left ∙ r.does.moves.left t) in
     refused_at_end j a b s r part why (subst (λ x. length x ≤ limit) same few) (ap (λ x. part_of x false) (sym same) ∙ is) refused r.outcomes.input_failed refl
 
-pub program_cause : (j : Job) (a b : Seen) (s : Status) → Runs j a b s → ProgramCause j a b s
+pub program_cause : (j : Job) (a b : Seen) (s : Status) → Runs j a b s → ProgramCause a b s
 program_cause j a b s r = record {
   only = λ t h. at_program j a b (subst (Runs j a b) h r) t;
   always = program_always j a b s r;
   at_end = program_at_end j a b s r;
 }
 
+-- ---- statuses 4, 5 and 6
+
+-- a device doesn't open, as it says here
+pub record IsRefusedOpening (j : Job) (v : Verdict) (u : Option (ℕ × OpenFault)) (a b : Seen) : Type 0 where
+  pub program : Program
+  pub fault : ℕ × OpenFault
+  pub accepted : v ≡ Accepted program
+  pub is : u ≡ Some fault
+  pub read : List ℕ
+  pub part_read : Seen
+  pub reads_part : Does a part_read read [] none
+  pub opening : IsOpening program (Some fault) part_read b
+
+refused_opening : (j : Job) (v : Verdict) (u : Option (ℕ × OpenFault)) (session : Option Session) (lines unanswered : List DoneLine) (a b : Seen) → Course j v u session lines unanswered a b → (u ≡ None) ⊎ IsRefusedOpening j v u a b
+refused_opening j v u session lines unanswered a b (reads none opens did un does) = inl opens
+refused_opening j v u session lines unanswered a b (opens_none {p} {f} {read} {m} run accepted is none did un does opening) = inr (record { program = p; fault = f; accepted = accepted; is = is; read = read; part_read = m; reads_part = does; opening = opening })
+refused_opening j v u session lines unanswered a b (serves run accepted none is spelled ordered) = inl none
+
+-- such a status comes of a device that doesn't open alone
+IsOfStore : Status → Type 0
+IsOfStore s = (s ≡ status.Disk) ⊎ ((s ≡ status.Store) ⊎ (s ≡ status.OtherProgram))
+
+not_store : (r s : Status) → IsOfStore s → r ≡ s → (r ≡ status.Disk → ⊥) → (r ≡ status.Store → ⊥) → (r ≡ status.OtherProgram → ⊥) → ⊥
+not_store r s (inl h) e d b o = d (e ∙ h)
+not_store r s (inr (inl h)) e d b o = b (e ∙ h)
+not_store r s (inr (inr h)) e d b o = o (e ∙ h)
+
+reading_store : (over failed : Bool) (s : Status) → IsOfStore s → status_at (if over then InputTooLong else if failed then InputFault else Done) ≡ s → ⊥
+reading_store true failed s h e = not_store status.TooLong s h e (λ k. cc) (λ k. cc) (λ k. cc)
+reading_store false true s h e = not_store status.Input s h e (λ k. cc) (λ k. cc) (λ k. cc)
+reading_store false false s h e = not_store status.Done s h e (λ k. cc) (λ k. cc) (λ k. cc)
+
+behind_store : (j : Job) (e : Ending) (s : Status) → IsOfStore s → (status_at e ≡ s → ⊥) → status_at (behind_part j e) ≡ s → ⊥
+behind_store job.Run e s h n k = n k
+behind_store job.Check e s h n k = not_store status.Done s h k (λ q. cc) (λ q. cc) (λ q. cc)
+
+-- a device that doesn't open, by the status
+pub record IsUnopenedAs (v : Verdict) (u : Option (ℕ × OpenFault)) (s : Status) : Type 0 where
+  pub program : Program
+  pub fault : ℕ × OpenFault
+  pub accepted : v ≡ Accepted program
+  pub is : u ≡ Some fault
+  pub status_is : status_at (unopened_end program fault) ≡ s
+
+with_store : (v : Verdict) (u : Option (ℕ × OpenFault)) (e : Ending) (s : Status) → IsOfStore s → (status_at e ≡ s → ⊥) → status_at (ending_with v u e) ≡ s → IsUnopenedAs v u s
+with_store Unknown u e s h n k = absurd (n k)
+with_store (Rejected why) u e s h n k = absurd (not_store status.Program s h k (λ q. cc) (λ q. cc) (λ q. cc))
+with_store (Accepted p) None e s h n k = absurd (n k)
+with_store (Accepted p) (Some f) e s h n k = record { program = p; fault = f; accepted = refl; is = refl; status_is = k }
+
+pub record HasStoreStatus (j : Job) (v : Verdict) (u : Option (ℕ × OpenFault)) (read : List ℕ) (failed : Bool) (s : Status) : Type 0 where
+  pub part : Part
+  pub is_part : part_of read failed ≡ Some part
+  pub unopened : IsUnopenedAs v u s
+
+store_status : (j : Job) (v : Verdict) (u : Option (ℕ × OpenFault)) (read : List ℕ) (failed : Bool) (s : Status) → IsOfStore s → status_at (ending_of j v u read failed) ≡ s → HasStoreStatus j v u read failed s
+store_status j v u read failed s h e = by (part_of read failed) refl
+  where
+    by : (part : Option Part) → part_of read failed ≡ part → HasStoreStatus j v u read failed s
+    by None is = absurd (reading_store (is_over read) failed s h (sym (ap (λ x. status_at (ending_in j v u x (reading_end read failed))) is) ∙ e))
+    by (Some part) is = record {
+      part = part;
+      is_part = is;
+      unopened = with_store v u (behind_part j (reading_end read failed)) s h (behind_store j (reading_end read failed) s h (reading_store (is_over read) failed s h)) (sym (ap (λ x. status_at (ending_in j v u x (reading_end read failed))) is) ∙ e);
+    }
+
+one_program : (p q : Program) → Accepted p ≡ Accepted q → p ≡ q
+one_program p q e = cc
+
+one_fault_of : (f g : ℕ × OpenFault) → ◌≡◌ {A = Option (ℕ × OpenFault)} (Some f) (Some g) → f ≡ g
+one_fault_of f g e = cc
+
+accepted_text : (v : Verdict) (p : Program) (part : Part) (stopped : Option (ℕ × Bool)) → v ≡ Accepted p → IsJudged v (Some part) stopped → HasVerdict part.text (Accepted p)
+accepted_text v p part stopped is (inl q) = subst (HasVerdict part.text) is q.has
+accepted_text v p part stopped is (inr q) = let no : Accepted p ≡ Unknown = sym is ∙ q.0 in absurd (cc)
+
+before_on : (p : Program) (d : ℕ) (a m : Seen) → ((e f : ℕ) → content_in m e f ≡ content_in a e f) → OpenBefore p d m → OpenBefore p d a
+before_on p d a m same h = λ e below. let o = h e below in (o.0, subst (λ x. OpensTo p e (content_in a e 0) x o.0) (same e 1) (subst (λ x. OpensTo p e x (content_in m e 1) o.0) (same e 0) o.1))
+
+store_on : (p : Program) (d : ℕ) (stored : Stored) (a m : Seen) → ((e f : ℕ) → content_in m e f ≡ content_in a e f) → HasStore p d (content_in m d 0) (content_in m d 1) stored → HasStore p d (content_in a d 0) (content_in a d 1) stored
+store_on p d stored a m same h = subst (λ x. HasStore p d (content_in a d 0) x stored) (same d 1) (subst (λ x. HasStore p d x (content_in m d 1) stored) (same d 0) h)
+
+-- ---- counts of disks
+
+quiet_does : (a b : Seen) (read text : List ℕ) → Does a b read text none → (d : ℕ) → disk_faults d b ≡ disk_faults d a
+quiet_does a b read text does d = (does.moves.counts (Disk d)).0 refl
+
+quiet_halts : (failed : Bool) (calm halted : Seen) → Halts failed calm halted → (d : ℕ) → disk_faults d halted ≡ disk_faults d calm
+quiet_halts false calm halted h d = ap (disk_faults d) h
+quiet_halts true calm halted f d = (f.moves.counts (Disk d)).0 refl
+
+quiet_breaks : (a b : Seen) (text : List ℕ) → Breaks a b text none → (d : ℕ) → disk_faults d b ≡ disk_faults d a
+quiet_breaks a b text k d = (k.failed.moves.counts (Disk d)).0 refl ∙ quiet_does a k.before [] k.front k.does d
+
+quiet_closes : (halted new : Seen) (last : List ℕ) (s : Status) → Closes halted new last s → (d : ℕ) → disk_faults d new ≡ disk_faults d halted
+quiet_closes halted new last status.Output k d = quiet_breaks halted new last k d
+quiet_closes halted new last status.Done k d = quiet_does halted new [] last k d
+quiet_closes halted new last status.Words k d = quiet_does halted new [] last k d
+quiet_closes halted new last status.Program k d = quiet_does halted new [] last k d
+quiet_closes halted new last status.Store k d = quiet_does halted new [] last k d
+quiet_closes halted new last status.OtherProgram k d = quiet_does halted new [] last k d
+quiet_closes halted new last status.Disk k d = quiet_does halted new [] last k d
+quiet_closes halted new last status.Input k d = quiet_does halted new [] last k d
+quiet_closes halted new last status.Memory k d = quiet_does halted new [] last k d
+quiet_closes halted new last status.TooLong k d = quiet_does halted new [] last k d
+quiet_closes halted new last status.Line k d = quiet_does halted new [] last k d
+
+-- what a device that doesn't open says of the whole run, by its fault
+module _ (j : Job) (a b : Seen) (s : Status) (r : Runs j a b s) (h : IsOfStore s) (far : HasSeparator r.read ⊎ IsAtEnd b) where
+  status_is : HasStoreStatus j r.verdict r.outcomes.unopened r.read r.outcomes.input_failed s
+  status_is = store_status j r.verdict r.outcomes.unopened r.read r.outcomes.input_failed s h
+      (status_read j a b s r (λ e. not_store status.Memory s h (sym e) (λ q. cc) (λ q. cc) (λ q. cc)) (λ e. not_store status.Output s h (sym e) (λ q. cc) (λ q. cc) (λ q. cc)))
+
+  refused_here : (o : IsRefusedOpening j r.verdict r.outcomes.unopened a r.calm) × (status_at (unopened_end o.program o.fault) ≡ s)
+  refused_here = by (refused_opening j r.verdict r.outcomes.unopened _ r.lines r.unanswered a r.calm r.course)
+    where
+      by : (r.outcomes.unopened ≡ None) ⊎ IsRefusedOpening j r.verdict r.outcomes.unopened a r.calm → (o : IsRefusedOpening j r.verdict r.outcomes.unopened a r.calm) × (status_at (unopened_end o.program o.fault) ≡ s)
+      by (inl none) = let no : Some status_is.unopened.fault ≡ None = sym status_is.unopened.is ∙ none in absurd (cc)
+      by (inr o) =
+          let p = one_program o.program status_is.unopened.program (sym o.accepted ∙ status_is.unopened.accepted) in
+          let f = one_fault_of o.fault status_is.unopened.fault (sym o.is ∙ status_is.unopened.is) in
+          (o, ap (λ x. status_at (unopened_end x o.fault)) p ∙ ap (λ x. status_at (unopened_end status_is.unopened.program x)) f ∙ status_is.unopened.status_is)
+
+  accepted_here : a.told ≡ true → IsAcceptedPart a b refused_here.0.program
+  accepted_here t = record {
+    read = r.read;
+    left = r.does.moves.left t;
+    part = status_is.part;
+    is_cut = r.outcomes.input_failed;
+    is_part = status_is.is_part;
+    accepted = accepted_text r.verdict refused_here.0.program status_is.part r.outcomes.stopped refused_here.0.accepted (subst (λ x. IsJudged r.verdict x r.outcomes.stopped) status_is.is_part r.judged);
+    far = far;
+  }
+
+  same_files : a.told ≡ true → (e f : ℕ) → content_in refused_here.0.part_read e f ≡ content_in a e f
+  same_files t e f = content_on a refused_here.0.part_read refused_here.0.read [] none t refused_here.0.reads_part e f
+
+  finds_store : a.told ≡ true → (d : ℕ) (stored : Stored) → OpenBefore refused_here.0.program d refused_here.0.part_read → HasStore refused_here.0.program d (content_in refused_here.0.part_read d 0) (content_in refused_here.0.part_read d 1) stored → FindsStore a b refused_here.0.program d stored
+  finds_store t d stored before store = record {
+    accepted = accepted_here t;
+    before = before_on refused_here.0.program d a refused_here.0.part_read (same_files t) before;
+    store = store_on refused_here.0.program d stored a refused_here.0.part_read (same_files t) store;
+  }
+
+  told_here : a.told ≡ true → refused_here.0.part_read.told ≡ true
+  told_here t = refused_here.0.reads_part.moves.told ∙ t
+
+  find_bad : a.told ≡ true → s ≡ status.Store → (u : ℕ × OpenFault) → refused_here.0.fault ≡ u → FindsUnopened refused_here.0.program (Some u) refused_here.0.part_read r.calm → (p : Program) × (d : ℕ) × (file : ℕ) × (at : ℕ) × FindsStore a b p d (stores.Bad file at)
+  find_bad t is (d, open.BadStore file at) e f = (refused_here.0.program, (d, (file, (at, finds_store t d (stores.Bad file at) f.0 f.1))))
+  find_bad t is (d, open.Memory) e f = let no : status.Memory ≡ status.Store = sym (ap (λ x. status_at (unopened_end refused_here.0.program x)) e) ∙ refused_here.1 ∙ is in absurd (cc)
+  find_bad t is (d, open.Disk) e f = let no : status.Disk ≡ status.Store = sym (ap (λ x. status_at (unopened_end refused_here.0.program x)) e) ∙ refused_here.1 ∙ is in absurd (cc)
+  find_bad t is (d, open.OtherProgram) e f = let no : status.OtherProgram ≡ status.Store = sym (ap (λ x. status_at (unopened_end refused_here.0.program x)) e) ∙ refused_here.1 ∙ is in absurd (cc)
+
+  find_other : a.told ≡ true → s ≡ status.OtherProgram → (u : ℕ × OpenFault) → refused_here.0.fault ≡ u → FindsUnopened refused_here.0.program (Some u) refused_here.0.part_read r.calm → (p : Program) × (d : ℕ) × FindsStore a b p d stores.OtherProgram
+  find_other t is (d, open.OtherProgram) e f = (refused_here.0.program, (d, finds_store t d stores.OtherProgram f.0 f.1))
+  find_other t is (d, open.Memory) e f = let no : status.Memory ≡ status.OtherProgram = sym (ap (λ x. status_at (unopened_end refused_here.0.program x)) e) ∙ refused_here.1 ∙ is in absurd (cc)
+  find_other t is (d, open.Disk) e f = let no : status.Disk ≡ status.OtherProgram = sym (ap (λ x. status_at (unopened_end refused_here.0.program x)) e) ∙ refused_here.1 ∙ is in absurd (cc)
+  find_other t is (d, open.BadStore file at) e f = let no : status.Store ≡ status.OtherProgram = sym (ap (λ x. status_at (unopened_end refused_here.0.program x)) e) ∙ refused_here.1 ∙ is in absurd (cc)
+
+  rose_here : (d : ℕ) → Rose (disk_faults d refused_here.0.part_read) (disk_faults d r.calm) → Rose (disk_faults d a) (disk_faults d b)
+  rose_here d rose =
+      let first = quiet_does a refused_here.0.part_read refused_here.0.read [] refused_here.0.reads_part d in
+      let last = quiet_closes r.halted b r.last s r.closes d ∙ quiet_halts r.outcomes.input_failed r.calm r.halted r.halts d in
+      subst (λ x. Rose x (disk_faults d b)) first (subst (λ x. Rose (disk_faults d refused_here.0.part_read) x) (sym last) rose)
+
+  find_disk : s ≡ status.Disk → (u : ℕ × OpenFault) → refused_here.0.fault ≡ u → FailsNone (Some u) refused_here.0.part_read r.calm → (d : ℕ) × Rose (disk_faults d a) (disk_faults d b)
+  find_disk is (d, open.Disk) e f = (d, rose_here d f)
+  find_disk is (d, open.Memory) e f = let no : status.Memory ≡ status.Disk = sym (ap (λ x. status_at (unopened_end refused_here.0.program x)) e) ∙ refused_here.1 ∙ is in absurd (cc)
+  find_disk is (d, open.BadStore file at) e f = let no : status.Store ≡ status.Disk = sym (ap (λ x. status_at (unopened_end refused_here.0.program x)) e) ∙ refused_here.1 ∙ is in absurd (cc)
+  find_disk is (d, open.OtherProgram) e f = let no : status.OtherProgram ≡ status.Disk = sym (ap (λ x. status_at (unopened_end refused_here.0.program x)) e) ∙ refused_here.1 ∙ is in absurd (cc)
+
+  pub bad_found : a.told ≡ true → s ≡ status.Store → (p : Program) × (d : ℕ) × (file : ℕ) × (at : ℕ) × FindsStore a b p d (stores.Bad file at)
+  bad_found t is = find_bad t is refused_here.0.fault refl (refused_here.0.opening.finds (told_here t))
+
+  pub other_found : a.told ≡ true → s ≡ status.OtherProgram → (p : Program) × (d : ℕ) × FindsStore a b p d stores.OtherProgram
+  other_found t is = find_other t is refused_here.0.fault refl (refused_here.0.opening.finds (told_here t))
+
+  pub disk_found : s ≡ status.Disk → (d : ℕ) × Rose (disk_faults d a) (disk_faults d b)
+  disk_found is = find_disk is refused_here.0.fault refl refused_here.0.opening.failed
+
+-- at these statuses the program part was read whole
+far_at : (j : Job) (a b : Seen) (s : Status) (r : Runs j a b s) → IsOfStore s → HasSeparator r.read ⊎ IsAtEnd b
+far_at j a b status.Disk r h = r.far.1
+far_at j a b status.Store r h = r.far.1
+far_at j a b status.OtherProgram r h = r.far.1
+far_at j a b status.Done r h = absurd (not_store status.Done _ h refl (λ q. cc) (λ q. cc) (λ q. cc))
+far_at j a b status.Words r h = absurd (not_store status.Words _ h refl (λ q. cc) (λ q. cc) (λ q. cc))
+far_at j a b status.Program r h = absurd (not_store status.Program _ h refl (λ q. cc) (λ q. cc) (λ q. cc))
+far_at j a b status.Input r h = absurd (not_store status.Input _ h refl (λ q. cc) (λ q. cc) (λ q. cc))
+far_at j a b status.Output r h = absurd (not_store status.Output _ h refl (λ q. cc) (λ q. cc) (λ q. cc))
+far_at j a b status.Memory r h = absurd (not_store status.Memory _ h refl (λ q. cc) (λ q. cc) (λ q. cc))
+far_at j a b status.TooLong r h = absurd (not_store status.TooLong _ h refl (λ q. cc) (λ q. cc) (λ q. cc))
+far_at j a b status.Line r h = absurd (not_store status.Line _ h refl (λ q. cc) (λ q. cc) (λ q. cc))
+
+pub opening_cause : (j : Job) (a b : Seen) (s : Status) → Runs j a b s → OpeningCause a b s
+opening_cause j a b s r = record {
+  bad = λ t is. let h : IsOfStore s = inr (inl is) in bad_found j a b s r h (far_at j a b s r h) t is;
+  other = λ t is. let h : IsOfStore s = inr (inr is) in other_found j a b s r h (far_at j a b s r h) t is;
+  disk = λ is. let h : IsOfStore s = inl is in disk_found j a b s r h (far_at j a b s r h) is;
+}
+
+counts_rose : (before now : ℕ) → Rose before now → Counts 1 before now
+counts_rose before now h = (λ e. absurd (cc), h)
+
 -- ---- runs that end before they begin
 
 -- nothing was taken, and a last line was said or broke off
 pub record EndsAtOnce (old new : Seen) (s : Status) : Type 0 where
   pub text : List ℕ
-  pub does : Does old new [] text (faults_of false (is_output s))
+  pub ran : Ran old new [] text false (is_output s)
+
+ran_none : (a : Seen) → Ran a a [] [] false false
+ran_none a = ran_goes a a [] [] (goes_nil a)
 
 ends_said : (a b : Seen) (text : List ℕ) (s : Status) → is_output s ≡ false → Does a b [] text none → EndsAtOnce a b s
-ends_said a b text s h d = record { text = text; does = subst (λ x. Does a b [] text (faults_of false x)) (sym h) (stops_none a b [] text d) }
+ends_said a b text s h d = record { text = text; ran = subst (λ x. Ran a b [] text false x) (sym h) (ran_says a a b [] [] text false (ran_none a) d) }
 
 finishes_at_once : (a b : Seen) (line : List ℕ) (wanted s : Status) → Finishes a b line wanted s → EndsAtOnce a b s
-finishes_at_once a b line wanted status.Output d = record { text = d.front; does = ends_output a a b false [] [] d.front (stops_none a a [] [] (does-nil a)) (breaks_does a b line none d) }
+finishes_at_once a b line wanted status.Output d = record { text = d.front; ran = ran_breaks a a b [] [] d.front false (ran_none a) (breaks_does a b line none d) }
 finishes_at_once a b line wanted status.Done d = ends_said a b _ status.Done refl d.1
 finishes_at_once a b line wanted status.Words d = ends_said a b _ status.Words refl d.1
 finishes_at_once a b line wanted status.Program d = ends_said a b _ status.Program refl d.1
@@ -364,13 +622,13 @@ never s r (inr (inl h)) e w m o = m (sym e ∙ h)
 never s r (inr (inr h)) e w m o = o (sym e ∙ h)
 
 untaken : (a b : Seen) (s : Status) → EndsAtOnce a b s → a.told ≡ true → a.left ≡ b.left
-untaken a b s e t = e.does.moves.left t
+untaken a b s e t = e.ran.does.moves.left t
 
 pub refused_input : (a b : Seen) (s : Status) → Refuses a b s → InputCause a b s
 refused_input a b s d h = absurd (never s status.Input (refuses_with a b s d) h (λ q. cc) (λ q. cc) (λ q. cc))
 
 pub refused_output : (a b : Seen) (s : Status) → Refuses a b s → OutputCause a b s
-refused_output a b s d = (refuses_at_once a b s d).does.moves.counts Output
+refused_output a b s d = let e = refuses_at_once a b s d in subst (λ n. Counts n (a.faults Output) (b.faults Output)) e.ran.output (e.ran.does.moves.counts Output)
 
 pub refused_end : (j : Job) (a b : Seen) (s : Status) → Refuses a b s → EndCause j a b s
 refused_end j a b s d h = absurd (never s status.Done (refuses_with a b s d) h (λ q. cc) (λ q. cc) (λ q. cc))
@@ -383,7 +641,7 @@ refused_too_long a b s d = record {
 
 -- a run never says that the words are bad
 run_words : (j : Job) (a b : Seen) → Runs j a b status.Words → ⊥
-run_words j a b r = ending_words (is_over r.read) r.outcomes.input_failed (in_part j r.verdict (part_of r.read r.outcomes.input_failed) (reading_end r.read r.outcomes.input_failed) status.Words (status_read j a b status.Words r (λ h. absurd (cc)) (λ h. absurd (cc))) (λ h. absurd (cc)) (λ h. absurd (cc)))
+run_words j a b r = ending_words (is_over r.read) r.outcomes.input_failed (in_part j r.verdict r.outcomes.unopened (part_of r.read r.outcomes.input_failed) (reading_end r.read r.outcomes.input_failed) status.Words (status_read j a b status.Words r (λ h. absurd (cc)) (λ h. absurd (cc))) (λ h. absurd (cc)) (λ h. absurd (cc)) (no_opening status.Words (λ h. absurd (cc)) (λ h. absurd (cc)) (λ h. absurd (cc)) (λ h. absurd (cc))))
   where
     ending_words : (over failed : Bool) → status_at (if over then InputTooLong else if failed then InputFault else Done) ≡ status.Words → ⊥
     ending_words true failed h = cc
@@ -395,39 +653,23 @@ never_words j a b s r h = run_words j a b (subst (Runs j a b) h r)
 
 -- ---- completeness
 
-ending_is : (over failed : Bool) → let e = (if over then InputTooLong else if failed then InputFault else Done) in (e ≡ InputTooLong) ⊎ ((e ≡ InputFault) ⊎ (e ≡ Done))
-ending_is true failed = inl refl
-ending_is false true = inr (inl refl)
-ending_is false false = inr (inr refl)
-
--- what is read ends in these ways alone
-abbrev IsEnding : Ending → Type 0
-IsEnding e = (e ≡ InputTooLong) ⊎ ((e ≡ InputFault) ⊎ (e ≡ Done))
-
-other_ending : (j : Job) (a b : Seen) (s : Status) → Runs j a b s → (s ≡ status.Memory → ⊥) → (s ≡ status.Output → ⊥) → (s ≡ status.Program → ⊥) → (s ≡ status.Done → ⊥) → (status.TooLong ≡ s) ⊎ (status.Input ≡ s)
-other_ending j a b s r m o p d = by (ending_is (is_over r.read) r.outcomes.input_failed) (in_part j r.verdict (part_of r.read r.outcomes.input_failed) (reading_end r.read r.outcomes.input_failed) s (status_read j a b s r m o) p d)
+run_line : (j : Job) (a b : Seen) → Runs j a b status.Line → ⊥
+run_line j a b r = ending_line (is_over r.read) r.outcomes.input_failed (in_part j r.verdict r.outcomes.unopened (part_of r.read r.outcomes.input_failed) (reading_end r.read r.outcomes.input_failed) status.Line (status_read j a b status.Line r (λ h. absurd (cc)) (λ h. absurd (cc))) (λ h. absurd (cc)) (λ h. absurd (cc)) (no_opening status.Line (λ h. absurd (cc)) (λ h. absurd (cc)) (λ h. absurd (cc)) (λ h. absurd (cc))))
   where
-    by : IsEnding (reading_end r.read r.outcomes.input_failed) → status_at (reading_end r.read r.outcomes.input_failed) ≡ s → (status.TooLong ≡ s) ⊎ (status.Input ≡ s)
-    by (inl e) h = inl (sym (ap status_at e) ∙ h)
-    by (inr (inl e)) h = inr (sym (ap status_at e) ∙ h)
-    by (inr (inr e)) h = absurd (d (sym h ∙ ap status_at e))
+    ending_line : (over failed : Bool) → status_at (if over then InputTooLong else if failed then InputFault else Done) ≡ status.Line → ⊥
+    ending_line true failed h = cc
+    ending_line false true h = cc
+    ending_line false false h = cc
 
-no_other : (j : Job) (a b : Seen) (s : Status) → Runs j a b s → (s ≡ status.Memory → ⊥) → (s ≡ status.Output → ⊥) → (s ≡ status.Program → ⊥) → (s ≡ status.Done → ⊥) → (status.TooLong ≡ s → ⊥) → (status.Input ≡ s → ⊥) → ⊥
-no_other j a b s r m o p d t i = by (other_ending j a b s r m o p d)
-  where
-    by : (status.TooLong ≡ s) ⊎ (status.Input ≡ s) → ⊥
-    by (inl h) = t h
-    by (inr h) = i h
-
-pub completes : (j : Job) (a b : Seen) (s : Status) → Runs j a b s → Completes j a b s
+pub completes : (j : Job) (a b : Seen) (s : Status) → Runs j a b s → Completes a b s
 completes j a b status.Done r u = inl refl
 completes j a b status.Memory r u = inr refl
 completes j a b status.Program r u = absurd (u.accepted (at_program j a b r u.told))
 completes j a b status.Input r u = absurd (u.quiet Input (at_input j a b r))
 completes j a b status.Output r u = absurd (u.quiet Output (output_cause j a b status.Output r))
 completes j a b status.TooLong r u = absurd (u.few (at_too_long j a b r u.told))
-completes j a b status.Words r u = absurd (no_other j a b status.Words r (λ h. absurd (cc)) (λ h. absurd (cc)) (λ h. absurd (cc)) (λ h. absurd (cc)) (λ h. absurd (cc)) (λ h. absurd (cc)))
-completes j a b status.Store r u = absurd (no_other j a b status.Store r (λ h. absurd (cc)) (λ h. absurd (cc)) (λ h. absurd (cc)) (λ h. absurd (cc)) (λ h. absurd (cc)) (λ h. absurd (cc)))
-completes j a b status.OtherProgram r u = absurd (no_other j a b status.OtherProgram r (λ h. absurd (cc)) (λ h. absurd (cc)) (λ h. absurd (cc)) (λ h. absurd (cc)) (λ h. absurd (cc)) (λ h. absurd (cc)))
-completes j a b status.Disk r u = absurd (no_other j a b status.Disk r (λ h. absurd (cc)) (λ h. absurd (cc)) (λ h. absurd (cc)) (λ h. absurd (cc)) (λ h. absurd (cc)) (λ h. absurd (cc)))
-completes j a b status.Line r u = absurd (no_other j a b status.Line r (λ h. absurd (cc)) (λ h. absurd (cc)) (λ h. absurd (cc)) (λ h. absurd (cc)) (λ h. absurd (cc)) (λ h. absurd (cc)))
+completes j a b status.Words r u = absurd (run_words j a b r)
+completes j a b status.Store r u = let f = (opening_cause j a b status.Store r).bad u.told refl in absurd (u.stores f.0 f.1 f.2 f.3 f.4)
+completes j a b status.OtherProgram r u = let f = (opening_cause j a b status.OtherProgram r).other u.told refl in absurd (u.own f.0 f.1 f.2)
+completes j a b status.Disk r u = let f = (opening_cause j a b status.Disk r).disk refl in absurd (u.quiet (Disk f.0) (counts_rose _ _ f.1))
+completes j a b status.Line r u = absurd (run_line j a b r)

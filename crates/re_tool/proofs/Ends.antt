@@ -1,35 +1,53 @@
 -- What a call that fails adds to what was done.
-use Rattle.std.proofs.Common.{◌≡◌, ◌++◌, [], ℕ, List, refl, Bool, true, false}
+use Rattle.std.proofs.Common.{arith, ◌≡◌, ◌++◌, [], ℕ, List, refl, Bool, true, false, ap, subst, ◌∙◌}
 use Rattle.std.proofs.lemmas.List.{append-nil}
-use Rattle.re_outside.specs.Outside.{Seen, FaultKind, Input, Output, Disk, Does, Fails, none, plus, input_fault, output_fault}
+use Rattle.re_outside.specs.Outside.{Seen, FaultKind, Input, Output, Disk, Does, DoesWith, Fails, Faults, none, plus, input_fault, output_fault}
 use Rattle.re_outside.specs.declared.step.Call.TheVariants as call
-use Rattle.re_outside.proofs.Does.{does_with_as, does_behind, fails_take}
-use Rattle.re_tool.specs.Session.{faults_of}
+use Rattle.re_outside.specs.declared.step.Step.{Step}
+use Rattle.re_outside.proofs.Does.{does_with-trans, fails_take}
+use Rattle.re_session.specs.Serving.{Goes}
+use Rattle.re_tool.specs.Session.{one_if}
 
-no_faults : (k : FaultKind) → none k ≡ faults_of false false k
-no_faults Input = refl
-no_faults Output = refl
-no_faults (Disk device) = refl
+abbrev pub AnySteps : List Step → Type 0
+AnySteps steps = Unit {0}
 
-input_faults : (k : FaultKind) → plus none input_fault k ≡ faults_of true false k
-input_faults Input = refl
-input_faults Output = refl
-input_faults (Disk device) = refl
+-- Bytes are read and a text is said, and a call that takes failed or didn't, and one that says.
+pub record Ran (a b : Seen) (read text : List ℕ) (failed broke : Bool) : Type 0 where
+  pub faults : Faults
+  pub input : faults Input ≡ one_if failed
+  pub output : faults Output ≡ one_if broke
+  pub does : DoesWith AnySteps a b read text faults
 
-output_faults : (failed : Bool) (k : FaultKind) → plus (faults_of failed false) (plus none output_fault) k ≡ faults_of failed true k
-output_faults true Input = refl
-output_faults false Input = refl
-output_faults failed Output = refl
-output_faults failed (Disk device) = refl
+pub ran_goes : (a b : Seen) (read text : List ℕ) → Goes a b read text → Ran a b read text false false
+ran_goes a b read text g = record { faults = g.faults; input = g.input; output = g.output; does = g.does }
 
--- no fault came
-pub stops_none : (a b : Seen) (read text : List ℕ) → Does a b read text none → Does a b read text (faults_of false false)
-stops_none a b read text d = does_with_as _ _ a b read text text none (faults_of false false) (λ steps p. p) d refl no_faults
+-- one part behind the other
+behind : {P : List Step → Type 0} (a b c : Seen) (read text more : List ℕ) (f g : Faults) → DoesWith AnySteps a b read text f → DoesWith P b c [] more g → DoesWith AnySteps a c read (text ++ more) (plus f g)
+behind {P} a b c read text more f g d e = subst (λ x. DoesWith AnySteps a c x (text ++ more) (plus f g)) (append-nil read) (does_with-trans AnySteps P AnySteps a b c read [] text more f g (λ xs ys p q. tt) d e)
 
 -- a `take` fails behind what was done
-pub stops_input : (a b c : Seen) (read text : List ℕ) → Does a b read text none → Fails b c call.Take input_fault → Does a c read text (faults_of true false)
-stops_input a b c read text d f = does_with_as _ _ a c read _ text _ _ (λ steps p. p) (does_behind a b c read text [] none input_fault d (fails_take b c f)) (append-nil text) input_faults
+pub ran_input : (a b c : Seen) (read text : List ℕ) → Ran a b read text false false → Fails b c call.Take input_fault → Ran a c read text true false
+ran_input a b c read text r f = record {
+  faults = plus r.faults input_fault;
+  input = omega (arith, r.input);
+  output = omega (arith, r.output);
+  does = subst (λ x. DoesWith AnySteps a c read x (plus r.faults input_fault)) (append-nil text) (behind a b c read text [] r.faults input_fault r.does (fails_take b c f));
+}
+
+-- a text is said behind what was done
+pub ran_says : (a b c : Seen) (read text more : List ℕ) (failed : Bool) → Ran a b read text failed false → Does b c [] more none → Ran a c read (text ++ more) failed false
+ran_says a b c read text more failed r d = record {
+  faults = plus r.faults none;
+  input = omega (arith, r.input);
+  output = omega (arith, r.output);
+  does = behind a b c read text more r.faults none r.does d;
+}
 
 -- a `say` fails behind what was done
-pub ends_output : (a b c : Seen) (failed : Bool) (read text front : List ℕ) → Does a b read text (faults_of failed false) → Does b c [] front (plus none output_fault) → Does a c read (text ++ front) (faults_of failed true)
-ends_output a b c failed read text front d e = does_with_as _ _ a c read _ _ _ _ (λ steps p. p) (does_behind a b c read text front (faults_of failed false) (plus none output_fault) d e) refl (output_faults failed)
+pub ran_breaks : (a b c : Seen) (read text front : List ℕ) (failed : Bool) → Ran a b read text failed false → Does b c [] front (plus none output_fault) → Ran a c read (text ++ front) failed true
+ran_breaks a b c read text front failed r d = record {
+  faults = plus r.faults (plus none output_fault);
+  input = omega (arith, r.input);
+  output = omega (arith, r.output);
+  does = behind a b c read text front r.faults (plus none output_fault) r.does d;
+}

@@ -1,22 +1,26 @@
 -- What stands behind the step of a call that failed.
-use Rattle.std.proofs.Common.{◌≡◌, ◌++◌, ◌∷◌, [], ℕ, List, sym, ◌∙◌, ap, subst, refl, append_assoc, Bool, true, false, Option, Some, None, ◌⊎◌, inl, inr}
+use Rattle.std.proofs.Common.{arith, ◌≡◌, ◌++◌, ◌∷◌, [], ℕ, List, sym, ◌∙◌, ap, subst, refl, append_assoc, Bool, true, false, Option, Some, None, ◌⊎◌, inl, inr}
 use Rattle.std.proofs.lemmas.List.{append-nil, append_cancel_left}
+use Rattle.re_compact.specs.declared.fault.OpenFault.{OpenFault}
 use Rattle.re_outside.specs.declared.step.Call.TheVariants as call
 use Rattle.re_outside.specs.declared.step.Step.{Step}
 use Rattle.re_outside.specs.declared.step.Step.TheVariants as step
-use Rattle.re_outside.specs.Outside.{Seen, AreSays, Does, Breaks, IsFailure, said, none}
-use Rattle.re_outside.proofs.Does.{does-nil, does-trans, plus-none, said-append, failure-said, says_alone}
+use Rattle.re_outside.specs.Outside.{AreSays, Breaks, Does, Input, IsFailure, Output, Seen, failures, none, said}
+use Rattle.re_outside.proofs.Does.{failure-said, said-append, says_alone}
+use Rattle.re_session.specs.Acts.{Act, Acts, DoneLine}
+use Rattle.re_session.specs.Serving.{Goes}
+use Rattle.re_session.proofs.Acting.{does_goes, goes_nil, goes_on, line_goes}
 use Rattle.re_terms.specs.declared.program.Program.{Program}
-use Rattle.re_terms.specs.DeviceWorlds.{Outcome, World, blank_world}
-use Rattle.re_commands.specs.Commanding.{commanded}
-use Rattle.re_tool.specs.declared.words.Job.{Job}
-use Rattle.re_tool.specs.declared.status.Status.{Status}
-use Rattle.re_tool.specs.declared.status.Status.TheVariants as status
-use Rattle.re_tool.specs.Acts.{Act, Acts, Ordered, OrderedIn}
-use Rattle.re_tool.specs.Answers.{Session, first, others, line_after}
+use Rattle.re_tool.specs.Acts.{Course, DoesLast, Ordered, opens_none, reads, serves}
+use Rattle.re_tool.specs.Answers.{Session}
 use Rattle.re_tool.specs.Endings.{InputFault, last_line}
 use Rattle.re_tool.specs.Failures.{failed_take, failed_say, SaysLastLine, StopsAtFailures}
 use Rattle.re_tool.specs.Session.{Runs, Halts, Closes, OnlyLastLine, Finishes, Refuses}
+use Rattle.re_tool.specs.Verdict.{Verdict}
+use Rattle.re_tool.specs.declared.status.Status.{Status}
+use Rattle.re_tool.specs.declared.status.Status.TheVariants as status
+use Rattle.re_tool.specs.declared.words.Job.{Job}
+use Rattle.re_world.specs.State.{WorldState}
 
 -- ---- lists of steps
 
@@ -74,36 +78,74 @@ no_take says fail before behind a (inr one) e =
     let q = pass_says says fail before behind failed_take refl a e in
     take_isnt_say (sym (last_is failed_say q.more behind failed_take (sym one ∙ q.is)).0)
 
+-- no call that takes or says failed among these steps
+pub record AreCalm (steps : List Step) : Type 0 where
+  pub input : failures steps Input ≡ 0
+  pub output : failures steps Output ≡ 0
+
+-- a call that takes or says failed
+abbrev IsFault : Step → Type 0
+IsFault f = (f ≡ failed_take) ⊎ (f ≡ failed_say)
+
+calm_behind : (x : Step) (steps : List Step) → AreCalm (x ∷ steps) → AreCalm steps
+calm_behind (step.Say bytes) steps c = record { input = c.input; output = c.output }
+calm_behind (step.Write device file at bytes) steps c = record { input = c.input; output = c.output }
+calm_behind (step.Cut device file length) steps c = record { input = c.input; output = c.output }
+calm_behind (step.Sync device file) steps c = record { input = c.input; output = c.output }
+calm_behind (step.Fail kind device file at bytes content) steps c = record { input = omega (arith, c.input); output = omega (arith, c.output) }
+
+no_fault : (x : Step) (steps : List Step) → IsFault x → AreCalm (x ∷ steps) → ⊥
+no_fault x steps (inl e) c = let n : failures (failed_take ∷ steps) Input ≡ 0 = subst (λ y. failures (y ∷ steps) Input ≡ 0) e c.input in absurd (omega (arith, n))
+no_fault x steps (inr e) c = let n : failures (failed_say ∷ steps) Output ≡ 0 = subst (λ y. failures (y ∷ steps) Output ≡ 0) e c.output in absurd (omega (arith, n))
+
+pass_calm : (steps rest before behind : List Step) (f : Step) → IsFault f → AreCalm steps → steps ++ rest ≡ before ++ f ∷ behind → Behind rest before f behind
+pass_calm [] rest before behind f is c e = record { more = before; is = e }
+pass_calm (x ∷ steps) rest [] behind f is c e = let same : f ≡ x = cc in absurd (no_fault x steps (subst IsFault same is) c)
+pass_calm (x ∷ steps) rest (y ∷ before) behind f is c e =
+    let t : steps ++ rest ≡ before ++ f ∷ behind = cc in
+    let q = pass_calm steps rest before behind f is (calm_behind x steps c) t in
+    record { more = q.more; is = q.is }
+
 -- ---- a run, in parts
 
--- no call failed between two moments
+-- no call that takes or says failed between two moments
 pub record Calm (old new : Seen) : Type 0 where
   pub read : List ℕ
   pub text : List ℕ
-  pub does : Does old new read text none
+  pub goes : Goes old new read text
 
-calm_on : (a b c : Seen) → Calm a b → (read text : List ℕ) → Does b c read text none → Calm a c
-calm_on a b c p read text d = record { read = p.read ++ read; text = p.text ++ text; does = well a b c p.read read p.text text p.does d }
-  where
-    well : (a b c : Seen) (r r' t t' : List ℕ) → Does a b r t none → Does b c r' t' none → Does a c (r ++ r') (t ++ t') none
-    well a b c r r' t t' p q = subst (Does a c (r ++ r') (t ++ t')) (plus-none none) (does-trans a b c r r' t t' none none p q)
+calm_on : (a b c : Seen) → Calm a b → (read text : List ℕ) → Goes b c read text → Calm a c
+calm_on a b c p read text g = record { read = p.read ++ read; text = p.text ++ text; goes = goes_on a b c p.read read p.text text p.goes g }
 
 calm_nil : (a b : Seen) → b ≡ a → Calm a b
-calm_nil a b e = subst (Calm a) (sym e) (record { read = []; text = []; does = does-nil a })
+calm_nil a b e = subst (Calm a) (sym e) (record { read = []; text = []; goes = goes_nil a })
 
-calm_act : (a b c : Seen) (answer : List ℕ) → Calm a b → Act b c answer → Calm a c
-calm_act a b c answer p act = calm_on a act.done c (calm_on a act.begun act.done (calm_on a b act.begun p _ _ act.reads) _ _ act.own) _ _ act.says
+calm_act : (a b c : Seen) (p : Program) (l : DoneLine) (v v' : WorldState) → Calm a b → Act p l v v' b c → Calm a c
+calm_act a b c p l v v' calm act = calm_on a act.done c (calm_on a act.begun act.done (calm_on a b act.begun calm _ _ (does_goes b act.begun _ [] act.reads)) _ _ (line_goes p l.line v v' l.answer l.outcome act.begun act.done act.own)) _ _ (does_goes act.done c [] _ act.says)
 
-calm_acts : (p : Program) (w : World) (lines : List (List ℕ)) (os : List Outcome) (a b c : Seen) → Calm a b → Acts p w lines os b c → Calm a c
-calm_acts p w [] os a b c calm e = subst (Calm a) (sym e) calm
-calm_acts p w (l ∷ lines) os a b c calm e = calm_acts p (line_after p w (commanded p l) (first os)) lines (others os) a e.mid c (calm_act a b e.mid _ calm e.here) e.there
+calm_acts : (p : Program) (lines : List DoneLine) (v v' : WorldState) (a b c : Seen) → Calm a b → Acts p lines v v' b c → Calm a c
+calm_acts p [] v v' a b c calm e = subst (Calm a) (sym e.1) calm
+calm_acts p (l ∷ lines) v v' a b c calm e = calm_acts p lines e.devices v' a e.mid c (calm_act a b e.mid p l v e.devices calm e.here) e.there
 
-calm_ordered : (a b : Seen) (p : Program) (w : World) (lines : List (List ℕ)) (os : List Outcome) (unanswered : List (List ℕ)) → Ordered a b p w lines os unanswered → Calm a b
-calm_ordered a b p w lines os unanswered o = calm_on a o.begun b (calm_on a o.mid o.begun (calm_acts p w o.answered o.theirs a a o.mid (calm_nil a a refl) o.acts) _ _ o.reads) _ _ o.own
+calm_last : (p : Program) (lines : List DoneLine) (v v' : WorldState) (a b c : Seen) → Calm a b → DoesLast p lines v v' b c → Calm a c
+calm_last p [] v v' a b c calm d = subst (Calm a) (sym d.1) calm
+calm_last p (l ∷ []) v v' a b c calm d = calm_on a b c calm _ _ (line_goes p l.line v v' l.answer l.outcome b c d)
+calm_last p (l ∷ m ∷ lines) v v' a b c calm d = absurd d
 
-calm_in : (a b : Seen) (start : Program → World) (s : Option Session) (os : List Outcome) (unanswered : List (List ℕ)) → OrderedIn a b start s os unanswered → Calm a b
-calm_in a b start None os unanswered o = record { read = o.2.0; text = []; does = o.2.1 }
-calm_in a b start (Some s) os unanswered o = calm_ordered a b s.program (start s.program) s.lines os unanswered o
+calm_ordered : (a b : Seen) (p : Program) (lines unanswered : List DoneLine) (last : WorldState) → Ordered a b p lines unanswered last → Calm a b
+calm_ordered a b p lines unanswered last o =
+    let part = calm_on a a o.part_read (calm_nil a a refl) _ _ (does_goes a o.part_read _ [] o.reads_part) in
+    let opened = calm_on a o.part_read o.opened part _ _ o.opens.opening.goes in
+    let acted = calm_acts p o.answered o.devices o.before a o.opened o.mid opened o.acts in
+    calm_last p unanswered o.before last a o.begun b (calm_on a o.mid o.begun acted _ _ (does_goes o.mid o.begun _ [] o.reads)) o.own
+
+calm_course : (a b : Seen) (j : Job) (v : Verdict) (u : Option (ℕ × OpenFault)) (session : Option Session) (lines unanswered : List DoneLine) → Course j v u session lines unanswered a b → Calm a b
+calm_course a b j v u session lines unanswered (reads none opens did un does) = calm_on a a b (calm_nil a a refl) _ _ (does_goes a b _ [] does)
+calm_course a b j v u session lines unanswered (opens_none {p} {f} {read} {m} run accepted is none did un does opening) = calm_on a m b (calm_on a a m (calm_nil a a refl) _ _ (does_goes a m read [] does)) _ _ opening.goes
+calm_course a b j v u session lines unanswered (serves {s} {last} run accepted none is spelled ordered) = calm_ordered a b s.program lines unanswered last ordered
+
+calm_steps : (old new : Seen) (c : Calm old new) → AreCalm c.goes.does.steps
+calm_steps old new c = record { input = omega (arith, c.goes.does.moves.counted Input, c.goes.input); output = omega (arith, c.goes.does.moves.counted Output, c.goes.output) }
 
 -- the steps of the call that reads and fails, where there is one
 abbrev HaltSteps : Bool → List Step → Type 0
@@ -115,9 +157,9 @@ abbrev CloseSteps : List ℕ → List Step → List Step → Status → Type 0
 CloseSteps last says fail s = ((fail ≡ []) × (said says ≡ last)) ⊎ ((s ≡ status.Output) × IsFailure call.Say fail × ((rest : List ℕ) × (last ≡ said says ++ rest)))
 
 -- The steps of a run: those before a failed `take`, its own, those behind it, and those of a failed `say`.
-pub record Course (old new : Seen) (s : Status) : Type 0 where
+pub record Parts (old new : Seen) (s : Status) : Type 0 where
   pub before : List Step
-  pub calm : AreSays before
+  pub calm : AreCalm before
   pub input_failed : Bool
   pub take : List Step
   pub halts : HaltSteps input_failed take
@@ -129,7 +171,7 @@ pub record Course (old new : Seen) (s : Status) : Type 0 where
   pub only : OnlyLastLine input_failed last s
   pub trace : old.told ≡ true → new.trace ≡ old.trace ++ (before ++ (take ++ (after ++ fail)))
 
-module _ (old new : Seen) (s : Status) (c : Course old new s) where
+module _ (old new : Seen) (s : Status) (c : Parts old new s) where
   -- behind a failed `say` no step stands
   last_say : (before behind : List Step) → c.after ++ c.fail ≡ before ++ failed_say ∷ behind → CloseSteps c.last c.after c.fail s → (behind ≡ []) × (s ≡ status.Output)
   last_say before behind e (inl none) =
@@ -186,18 +228,18 @@ module _ (old new : Seen) (s : Status) (c : Course old new s) where
     (one.2.0, sym o.0 ∙ one.2.1 ∙ ap (λ l. l ++ one.2.0) (sym (said-append c.after c.fail ∙ ap (λ l. said c.after ++ l) (failure-said call.Say c.fail one.1) ∙ append-nil (said c.after)))),
   )
 
-  rest_of : (before behind : List Step) (f : Step) → is_fail f ≡ true → old.told ≡ true → new.trace ≡ old.trace ++ (before ++ f ∷ behind) → Behind (c.take ++ (c.after ++ c.fail)) before f behind
+  rest_of : (before behind : List Step) (f : Step) → IsFault f → old.told ≡ true → new.trace ≡ old.trace ++ (before ++ f ∷ behind) → Behind (c.take ++ (c.after ++ c.fail)) before f behind
   rest_of before behind f is t e =
-      pass_says c.before (c.take ++ (c.after ++ c.fail)) before behind f is c.calm (append_cancel_left old.trace _ _ (sym (c.trace t) ∙ e))
+      pass_calm c.before (c.take ++ (c.after ++ c.fail)) before behind f is c.calm (append_cancel_left old.trace _ _ (sym (c.trace t) ∙ e))
 
   pub course_stops : StopsAtFailures old new s
   course_stops = record {
     take = λ t before behind e.
-        let q = rest_of before behind failed_take refl t e in
+        let q = rest_of before behind failed_take (inl refl) t e in
         let r = take_behind c.take q.more behind (halt_steps c.input_failed c.halts) q.is in
         subst (λ l. SaysLastLine l s) (sym r.1) (said_last c.input_failed c.halts c.only r.0 c.closes);
     say = λ t before behind e.
-        let q = rest_of before behind failed_say refl t e in
+        let q = rest_of before behind failed_say (inr refl) t e in
         say_behind c.take q.more behind (halt_steps c.input_failed c.halts) q.is;
   }
 
@@ -251,10 +293,10 @@ close_parts halted new last status.Memory d = close_well halted new last _ d
 close_parts halted new last status.TooLong d = close_well halted new last _ d
 close_parts halted new last status.Line d = close_well halted new last _ d
 
-course : (old calm halted new : Seen) (input : Bool) (last : List ℕ) (s : Status) → Calm old calm → HaltParts input calm halted → CloseParts halted new last s → OnlyLastLine input last s → Course old new s
-course old calm halted new input last s c h p only = record {
-  before = c.does.steps;
-  calm = says_of old calm c.read c.text c.does;
+parts : (old calm halted new : Seen) (input : Bool) (last : List ℕ) (s : Status) → Calm old calm → HaltParts input calm halted → CloseParts halted new last s → OnlyLastLine input last s → Parts old new s
+parts old calm halted new input last s c h p only = record {
+  before = c.goes.does.steps;
+  calm = calm_steps old calm c;
   input_failed = input;
   take = h.steps;
   halts = h.is;
@@ -265,14 +307,14 @@ course old calm halted new input last s c h p only = record {
   closes = p.closes;
   only = only;
   trace = λ t.
-      let k = c.does.moves.told ∙ t in
-      p.trace (h.told ∙ k) ∙ ap (λ l. l ++ (p.after ++ p.fail)) (h.trace k ∙ ap (λ l. l ++ h.steps) (c.does.moves.trace t)) ∙ simp append_assoc;
+      let k = c.goes.does.moves.told ∙ t in
+      p.trace (h.told ∙ k) ∙ ap (λ l. l ++ (p.after ++ p.fail)) (h.trace k ∙ ap (λ l. l ++ h.steps) (c.goes.does.moves.trace t)) ∙ simp append_assoc;
 }
 
 -- a run does nothing behind a failed `say`, and says its last line alone behind a failed `take`
 pub run_stops : (j : Job) (a b : Seen) (s : Status) → Runs j a b s → StopsAtFailures a b s
 run_stops j a b s r =
-    course_stops a b s (course a r.calm r.halted b r.outcomes.input_failed r.last s (calm_in a r.calm blank_world _ _ r.unanswered r.ordered) (halt_parts r.outcomes.input_failed r.calm r.halted r.halts) (close_parts r.halted b r.last s r.closes) r.only)
+    course_stops a b s (parts a r.calm r.halted b r.outcomes.input_failed r.last s (calm_course a r.calm j _ _ _ r.lines r.unanswered r.course) (halt_parts r.outcomes.input_failed r.calm r.halted r.halts) (close_parts r.halted b r.last s r.closes) r.only)
 
 finish_parts : (a b : Seen) (line : List ℕ) (wanted s : Status) → Finishes a b line wanted s → CloseParts a b line s
 finish_parts a b line wanted status.Output d = close_broken a b line d
@@ -288,7 +330,7 @@ finish_parts a b line wanted status.TooLong d = close_well a b line _ d.1
 finish_parts a b line wanted status.Line d = close_well a b line _ d.1
 
 finish_stops : (a b : Seen) (line : List ℕ) (wanted s : Status) → Finishes a b line wanted s → StopsAtFailures a b s
-finish_stops a b line wanted s d = course_stops a b s (course a a a b false line s (calm_nil a a refl) (halt_parts false a a refl) (finish_parts a b line wanted s d) tt)
+finish_stops a b line wanted s d = course_stops a b s (parts a a a b false line s (calm_nil a a refl) (halt_parts false a a refl) (finish_parts a b line wanted s d) tt)
 
 -- refused words do the same
 pub refused_stops : (a b : Seen) (s : Status) → Refuses a b s → StopsAtFailures a b s

@@ -18,9 +18,6 @@ use Rattle.re_tool.specs.declared.faults.Refusal.{Refusal}
 use Rattle.re_tool.specs.declared.faults.Refusal.TheVariants as refusal
 use Rattle.re_tool.specs.declared.faults.ProgramFault.{ProgramFault}
 use Rattle.re_tool.specs.declared.faults.ProgramFault.TheVariants as program
-use Rattle.re_tool.specs.declared.words.Job.{Job}
-use Rattle.re_tool.specs.declared.words.Job.TheVariants as job
-use Rattle.re_tool.specs.Built.{is_built}
 use Rattle.re_tool.specs.Faults.{lex_fault, syntax_fault, type_fault}
 use Rattle.re_tool.specs.Verdict.{Rejected, Accepted, HasTokens, HasTree, Judges, no_token, unexpected, too_deep, whole, HasVerdict, Decides, verdict_of}
 use Rattle.re_tool.proofs.Settling.{decided}
@@ -85,28 +82,13 @@ accepted_judged text tree p result has is answer short =
 pub refused_as : (text : List ℕ) (a b : Refusal) → ◌≡◌ {A = Result Program ProgramFault} (Err (program.Refused a)) (Err (program.Refused b)) → Judges text (Rejected a) → Judges text (Rejected b)
 refused_as text a b e h = let same : a ≡ b = cc in subst (λ why. Judges text (Rejected why)) same h
 
--- ---- for a job
+-- ---- verdicts
 
-rejected_has : (j : Job) (text : List ℕ) (why : Refusal) → Judges text (Rejected why) → HasVerdict j text (Rejected why)
-rejected_has job.Run text why h = inl h
-rejected_has job.Check text why h = h
+pub rejected_for : (text : List ℕ) (why : Refusal) → Judges text (Rejected why) → Decides text (Rejected why)
+rejected_for text why h = decided text (Rejected why) h
 
-pub rejected_for : (j : Job) (text : List ℕ) (why : Refusal) → Judges text (Rejected why) → Decides j text (Rejected why)
-rejected_for j text why h = decided j text (Rejected why) (rejected_has j text why h)
-
--- a program is accepted by `check`
-pub accepted_checked : (text : List ℕ) (p : Program) → Judges text (Accepted p) → Decides job.Check text (Accepted p)
-accepted_checked text p h = decided job.Check text (Accepted p) h
-
--- and by `run` where it can be run
-pub accepted_run : (text : List ℕ) (p : Program) → Judges text (Accepted p) → is_built p ≡ true → Decides job.Run text (Accepted p)
-accepted_run text p h b = decided job.Run text (Accepted p) (h, b)
-
--- a program that can't be run so far
-pub not_built : (text : List ℕ) (p : Program) (why : Refusal) → Judges text (Accepted p) → is_built p ≡ false → ◌≡◌ {A = Result Program ProgramFault} (Err (program.Refused refusal.NotBuilt)) (Err (program.Refused why)) → Decides job.Run text (Rejected why)
-not_built text p why h b e =
-    let same : why ≡ refusal.NotBuilt = cc in
-    decided job.Run text (Rejected why) (inr record { program = p; accepted = h; unbuilt = b; is = same })
+pub accepted_for : (text : List ℕ) (p : Program) → Judges text (Accepted p) → Decides text (Accepted p)
+accepted_for text p h = decided text (Accepted p) h
 
 -- the fault that a call handed on
 pub handed : (r : Result Program ProgramFault) (x y : ProgramFault) → r ≡ Err x → r ≡ Err y → x ≡ y

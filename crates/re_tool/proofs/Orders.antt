@@ -1,87 +1,70 @@
 -- The steps of a session, one line more.
-use Rattle.std.proofs.Common.{◌≡◌, ◌++◌, ◌∷◌, [], ℕ, List, length, sym, ◌∙◌, ap, subst, refl, append_assoc}
+use Rattle.std.proofs.Common.{◌≡◌, ◌++◌, ◌∷◌, [], ℕ, List, sym, subst, refl}
 use Rattle.std.proofs.lemmas.List.{append-nil}
 use Rattle.re_outside.specs.Outside.{Seen, Does, none}
-use Rattle.re_outside.proofs.Does.{does-nil}
+use Rattle.re_session.specs.Acts.{Act, Acts, DoneLine}
+use Rattle.re_session.specs.Serving.{DoesLine, Serves, Whole, said_of}
 use Rattle.re_terms.specs.declared.program.Program.{Program}
-use Rattle.re_terms.specs.DeviceWorlds.{World, Outcome}
-use Rattle.re_commands.specs.Commanding.{commanded}
-use Rattle.re_tool.specs.Answers.{texts, lines_after, line_text, line_after}
-use Rattle.re_tool.specs.Acts.{Act, Acts, Ordered}
+use Rattle.re_tool.specs.Acts.{DoesLast, OpensAs, Ordered}
+use Rattle.re_world.specs.State.{WorldState}
 
-pub texts-append : (p : Program) (w : World) (xs ys : List (List ℕ)) (os qs : List Outcome) → length os ≡ length xs → texts p w (xs ++ ys) (os ++ qs) ≡ texts p w xs os ++ texts p (lines_after p w xs os) ys qs
-texts-append p w [] ys [] qs h = refl
-texts-append p w [] ys (o ∷ os) qs h = absurd (cc)
-texts-append p w (x ∷ xs) ys [] qs h = absurd (cc)
-texts-append p w (x ∷ xs) ys (o ∷ os) qs h =
-    ap (λ t. line_text p w (commanded p x) o ++ t) (texts-append p (line_after p w (commanded p x) o) xs ys os qs (cc))
-    ∙ sym (append_assoc (line_text p w (commanded p x) o) (texts p (line_after p w (commanded p x) o) xs os) (texts p (lines_after p (line_after p w (commanded p x) o) xs os) ys qs))
+-- what was done of a line
+abbrev pub line_done : {p : Program} {line : List ℕ} {v v' : WorldState} {a b : Seen} {Told : Seen → Seen → List ℕ → Type 0} → Serves p line v v' a b Told → DoneLine
+line_done {p} {line} s = record { line = line; answer = s.answer; outcome = s.outcome }
 
-pub after-append : (p : Program) (w : World) (xs ys : List (List ℕ)) (os qs : List Outcome) → length os ≡ length xs → lines_after p w (xs ++ ys) (os ++ qs) ≡ lines_after p (lines_after p w xs os) ys qs
-after-append p w [] ys [] qs h = refl
-after-append p w [] ys (o ∷ os) qs h = absurd (cc)
-after-append p w (x ∷ xs) ys [] qs h = absurd (cc)
-after-append p w (x ∷ xs) ys (o ∷ os) qs h = after-append p (line_after p w (commanded p x) o) xs ys os qs (cc)
+-- a line was read, and is done with its whole answer
+pub act_said : (a b c : Seen) (p : Program) (line : List ℕ) (v v' : WorldState) (read : List ℕ) (s : Serves p line v v' b c Whole) → Does a b read [] none → Act p (line_done s) v v' a c
+act_said a b c p line v v' read s d = record { read = read; begun = b; reads = d; done = s.done; own = s.does; says = s.told }
 
--- one line more
-pub texts_more : (p : Program) (w : World) (lines : List (List ℕ)) (line : List ℕ) (os : List Outcome) (o : Outcome) → length os ≡ length lines
-    → texts p w (lines ++ line ∷ []) (os ++ o ∷ []) ≡ texts p w lines os ++ line_text p (lines_after p w lines os) (commanded p line) o
-texts_more p w lines line os o h = texts-append p w lines (line ∷ []) os (o ∷ []) h ∙ ap (λ t. texts p w lines os ++ t) (append-nil (line_text p (lines_after p w lines os) (commanded p line) o))
-
--- an outcome more changes nothing before it
-pub texts_front : (p : Program) (w : World) (lines : List (List ℕ)) (os : List Outcome) (o : Outcome) → length os ≡ length lines → texts p w lines (os ++ o ∷ []) ≡ texts p w lines os
-texts_front p w lines os o h = ap (λ l. texts p w l (os ++ o ∷ [])) (sym (append-nil lines)) ∙ texts-append p w lines [] os (o ∷ []) h ∙ append-nil (texts p w lines os)
-
--- a line more is done behind the others
-pub acts_more : (p : Program) (w : World) (lines : List (List ℕ)) (line : List ℕ) (os : List Outcome) (o : Outcome) (a b c : Seen) → length os ≡ length lines
-    → Acts p w lines os a b → Act b c (line_text p (lines_after p w lines os) (commanded p line) o)
-    → Acts p w (lines ++ line ∷ []) (os ++ o ∷ []) a c
-acts_more p w [] line [] o a b c h e q = record { mid = c; here = subst (λ s. Act s c (line_text p w (commanded p line) o)) e q; there = refl }
-acts_more p w [] line (x ∷ os) o a b c h e q = absurd (cc)
-acts_more p w (l ∷ lines) line [] o a b c h e q = absurd (cc)
-acts_more p w (l ∷ lines) line (x ∷ os) o a b c h e q = record {
-  mid = e.mid;
-  here = e.here;
-  there = acts_more p (line_after p w (commanded p l) x) lines line os o e.mid b c (cc) e.there q;
-}
-
--- a line was read, and what is said is its answer
-pub act_said : (a b c : Seen) (read text answer : List ℕ) → Does a b read [] none → Does b c [] text none → text ≡ answer → Act a c answer
-act_said a b c read text answer r d e = record { read = read; begun = b; reads = r; done = b; own = does-nil b; says = subst (λ t. Does b c [] t none) e d }
+-- Where the session stands behind some lines.
+pub record Reached (a b : Seen) (p : Program) (lines : List DoneLine) (now : WorldState) : Type 0 where
+  pub part : List ℕ
+  pub part_read : Seen
+  pub reads_part : Does a part_read part [] none
+  pub devices : WorldState
+  pub opened : Seen
+  pub opens : OpensAs p devices part_read opened
+  pub mid : Seen
+  pub acts : Acts p lines devices now opened mid
+  pub ahead : List ℕ
+  pub reads : Does mid b ahead [] none
 
 -- all of the lines are answered
-pub ordered_all : (a b c : Seen) (p : Program) (w : World) (lines : List (List ℕ)) (os : List Outcome) (ahead : List ℕ) → length os ≡ length lines → Acts p w lines os a b → Does b c ahead [] none → Ordered a c p w lines os []
-ordered_all a b c p w lines os ahead h acts d = record {
+pub ordered_all : (a b : Seen) (p : Program) (lines : List DoneLine) (now : WorldState) → Reached a b p lines now → Ordered a b p lines [] now
+ordered_all a b p lines now r = record {
   answered = lines;
   these = sym (append-nil lines);
-  theirs = os;
-  its = [];
-  fared = sym (append-nil os);
-  same = h;
-  one = refl;
-  mid = b;
-  acts = acts;
-  ahead = ahead;
-  begun = c;
-  reads = d;
-  own = does-nil c;
+  part = r.part;
+  part_read = r.part_read;
+  reads_part = r.reads_part;
+  devices = r.devices;
+  opened = r.opened;
+  opens = r.opens;
+  before = now;
+  mid = r.mid;
+  acts = r.acts;
+  ahead = r.ahead;
+  begun = b;
+  reads = r.reads;
+  own = (refl, refl);
 }
 
 -- all but one are, which was done
-pub ordered_but_one : (a b c d : Seen) (p : Program) (w : World) (lines : List (List ℕ)) (line : List ℕ) (os : List Outcome) (o : Outcome) (ahead : List ℕ) → length os ≡ length lines → Acts p w lines os a b → Does b c ahead [] none → Does c d [] [] none
-    → Ordered a d p w (lines ++ line ∷ []) (os ++ o ∷ []) (line ∷ [])
-ordered_but_one a b c d p w lines line os o ahead h acts reads own = record {
+pub ordered_but_one : (a b c : Seen) (p : Program) (lines : List DoneLine) (l : DoneLine) (now last : WorldState) → Reached a b p lines now → DoesLine p l.line now last l.answer l.outcome b c → Ordered a c p (lines ++ l ∷ []) (l ∷ []) last
+ordered_but_one a b c p lines l now last r d = record {
   answered = lines;
   these = refl;
-  theirs = os;
-  its = o ∷ [];
-  fared = refl;
-  same = h;
-  one = refl;
-  mid = b;
-  acts = acts;
-  ahead = ahead;
-  begun = c;
-  reads = reads;
-  own = own;
+  part = r.part;
+  part_read = r.part_read;
+  reads_part = r.reads_part;
+  devices = r.devices;
+  opened = r.opened;
+  opens = r.opens;
+  before = now;
+  mid = r.mid;
+  acts = r.acts;
+  ahead = r.ahead;
+  begun = b;
+  reads = r.reads;
+  own = d;
 }

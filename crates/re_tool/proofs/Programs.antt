@@ -4,8 +4,6 @@ use Rattle.std.proofs.lemmas.Bool.{lt-ltb, cases_lt}
 use Rattle.std.proofs.lemmas.List.{take_all}
 use Rattle.re_terms.specs.declared.program.Program.{Program}
 use Rattle.re_commands.specs.declared.fault.CommandFault.TheVariants as fault
-use Rattle.re_tool.specs.declared.words.Job.{Job}
-use Rattle.re_tool.specs.declared.words.Job.TheVariants as job
 use Rattle.re_commands.specs.Commanding.{commanded}
 use Rattle.re_tool.specs.Lines.{without_return}
 use Rattle.re_tool.specs.Verdict.{Verdict, Unknown, Rejected, Accepted, Judges, too_long, no_token, unexpected, too_deep, whole, HasVerdict, Decides}
@@ -41,25 +39,19 @@ judged_back text v (inr short) j = subst (λ t. Judges t v) (sym (take_all 65537
 back : (text : List ℕ) (v : Verdict) → Judges text v → Judges (take 65537 text) v
 back text v j = judged_back text v (cases_lt 65537 (length text)) j
 
-has_kept : (j : Job) (text : List ℕ) (v : Verdict) → HasVerdict j (take 65537 text) v → HasVerdict j text v
-has_kept j text Unknown h = h
-has_kept job.Check text (Rejected why) h = judged text (Rejected why) h
-has_kept job.Check text (Accepted p) h = judged text (Accepted p) h
-has_kept job.Run text (Rejected why) (inl h) = inl (judged text (Rejected why) h)
-has_kept job.Run text (Rejected why) (inr h) = inr record { program = h.program; accepted = judged text (Accepted h.program) h.accepted; unbuilt = h.unbuilt; is = h.is }
-has_kept job.Run text (Accepted p) h = (judged text (Accepted p) h.0, h.1)
+has_kept : (text : List ℕ) (v : Verdict) → HasVerdict (take 65537 text) v → HasVerdict text v
+has_kept text Unknown h = h
+has_kept text (Rejected why) h = judged text (Rejected why) h
+has_kept text (Accepted p) h = judged text (Accepted p) h
 
-has_back : (j : Job) (text : List ℕ) (v : Verdict) → HasVerdict j text v → HasVerdict j (take 65537 text) v
-has_back j text Unknown h = h
-has_back job.Check text (Rejected why) h = back text (Rejected why) h
-has_back job.Check text (Accepted p) h = back text (Accepted p) h
-has_back job.Run text (Rejected why) (inl h) = inl (back text (Rejected why) h)
-has_back job.Run text (Rejected why) (inr h) = inr record { program = h.program; accepted = back text (Accepted h.program) h.accepted; unbuilt = h.unbuilt; is = h.is }
-has_back job.Run text (Accepted p) h = (back text (Accepted p) h.0, h.1)
+has_back : (text : List ℕ) (v : Verdict) → HasVerdict text v → HasVerdict (take 65537 text) v
+has_back text Unknown h = h
+has_back text (Rejected why) h = back text (Rejected why) h
+has_back text (Accepted p) h = back text (Accepted p) h
 
 -- what is kept of a program part has its verdict
-pub verdict-kept : (j : Job) (text : List ℕ) (v : Verdict) → Decides j (take 65537 text) v → Decides j text v
-verdict-kept j text v d = record { has = has_kept j text v d.has; only = λ w k. d.only w (has_back j text w k) }
+pub verdict-kept : (text : List ℕ) (v : Verdict) → Decides (take 65537 text) v → Decides text v
+verdict-kept text v d = record { has = has_kept text v d.has; only = λ w k. d.only w (has_back text w k) }
 
 line-long : (p : Program) (line : List ℕ) → 1024 < length line → commanded p line ≡ Err fault.Syntax
 line-long p line h = rw (lt-ltb 1024 (length line) h) refl

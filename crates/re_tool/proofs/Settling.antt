@@ -1,5 +1,5 @@
 -- A program part has one verdict.
-use Rattle.std.proofs.Common.{arith, ◌≡◌, ℕ, List, sym, ◌∙◌, ap, subst, true, false, inl, inr}
+use Rattle.std.proofs.Common.{arith, ◌≡◌, ℕ, List, sym, ◌∙◌, ap, subst, true, false}
 use Rattle.re_terms.specs.declared.program.Program.{Program}
 use Rattle.re_terms.specs.declared.token.Token.{Token}
 use Rattle.re_terms.specs.declared.raw.RawDecl.{RawDecl}
@@ -13,11 +13,8 @@ use Rattle.re_syntax.specs.declared.fault.SyntaxFault.{SyntaxFault}
 use Rattle.re_syntax.specs.declared.fault.SyntaxFault.TheVariants as fault
 use Rattle.re_syntax.proofs.OneAnswer.{no_other_tree, no_other_refusal, not_both}
 use Rattle.re_types.specs.Resolving.{resolved}
-use Rattle.re_tool.specs.declared.words.Job.{Job}
-use Rattle.re_tool.specs.declared.words.Job.TheVariants as job
 use Rattle.re_tool.specs.declared.faults.Refusal.{Refusal}
 use Rattle.re_tool.specs.declared.faults.Refusal.TheVariants as refusal
-use Rattle.re_tool.specs.Built.{is_built}
 use Rattle.re_tool.specs.Verdict.{Verdict, Unknown, Rejected, Accepted, HasTokens, HasTree, Judges, too_long, no_token, unexpected, too_deep, whole, HasVerdict, Decides, verdict_of}
 
 tokens_same : {text : List ℕ} {t u : List Token} → HasTokens text t → HasTokens text u → u ≡ t
@@ -75,35 +72,15 @@ judged_once text v w (whole h e) (unexpected {place = b} k x f) = absurd (refuse
 judged_once text v w (whole h e) (too_deep {place = b} k x f) = absurd (refused_whole (fault.Deep b) h k x)
 judged_once text v w (whole h e) (whole k f) = f ∙ ap (λ x. verdict_of (resolved x)) (one_tree h k) ∙ sym e
 
--- ---- for a job
-
-accepted_not : (why : Refusal) (p : Program) → Accepted p ≡ Rejected why → ⊥
-accepted_not why p e = cc
-
-same_program : (p q : Program) → Accepted p ≡ Accepted q → p ≡ q
-same_program p q e = cc
-
-unbuilt_not : (p q : Program) → q ≡ p → is_built p ≡ true → is_built q ≡ false → ⊥
-unbuilt_not p q e b h = let k : false ≡ true = sym h ∙ ap is_built e ∙ b in cc
-
-verdict_once : (j : Job) (text : List ℕ) (v w : Verdict) → HasVerdict j text v → HasVerdict j text w → w ≡ v
-verdict_once j text Unknown w h k = absurd h
-verdict_once j text (Rejected why) Unknown h k = absurd k
-verdict_once j text (Accepted p) Unknown h k = absurd k
-verdict_once job.Check text (Rejected why) (Rejected other) h k = judged_once text (Rejected why) (Rejected other) h k
-verdict_once job.Check text (Rejected why) (Accepted q) h k = judged_once text (Rejected why) (Accepted q) h k
-verdict_once job.Check text (Accepted p) (Rejected other) h k = judged_once text (Accepted p) (Rejected other) h k
-verdict_once job.Check text (Accepted p) (Accepted q) h k = judged_once text (Accepted p) (Accepted q) h k
-verdict_once job.Run text (Rejected why) (Rejected other) (inl h) (inl k) = judged_once text (Rejected why) (Rejected other) h k
-verdict_once job.Run text (Rejected why) (Rejected other) (inl h) (inr k) = absurd (accepted_not why k.program (judged_once text (Rejected why) (Accepted k.program) h k.accepted))
-verdict_once job.Run text (Rejected why) (Rejected other) (inr h) (inl k) = absurd (accepted_not other h.program (judged_once text (Rejected other) (Accepted h.program) k h.accepted))
-verdict_once job.Run text (Rejected why) (Rejected other) (inr h) (inr k) = ap Rejected (k.is ∙ sym h.is)
-verdict_once job.Run text (Rejected why) (Accepted q) (inl h) k = judged_once text (Rejected why) (Accepted q) h k.0
-verdict_once job.Run text (Rejected why) (Accepted q) (inr h) k = absurd (unbuilt_not q h.program (same_program h.program q (judged_once text (Accepted q) (Accepted h.program) k.0 h.accepted)) k.1 h.unbuilt)
-verdict_once job.Run text (Accepted p) (Rejected other) h (inl k) = judged_once text (Accepted p) (Rejected other) h.0 k
-verdict_once job.Run text (Accepted p) (Rejected other) h (inr k) = absurd (unbuilt_not p k.program (same_program k.program p (judged_once text (Accepted p) (Accepted k.program) h.0 k.accepted)) h.1 k.unbuilt)
-verdict_once job.Run text (Accepted p) (Accepted q) h k = judged_once text (Accepted p) (Accepted q) h.0 k.0
+verdict_once : (text : List ℕ) (v w : Verdict) → HasVerdict text v → HasVerdict text w → w ≡ v
+verdict_once text Unknown w h k = absurd h
+verdict_once text (Rejected why) Unknown h k = absurd k
+verdict_once text (Accepted p) Unknown h k = absurd k
+verdict_once text (Rejected why) (Rejected other) h k = judged_once text (Rejected why) (Rejected other) h k
+verdict_once text (Rejected why) (Accepted q) h k = judged_once text (Rejected why) (Accepted q) h k
+verdict_once text (Accepted p) (Rejected other) h k = judged_once text (Accepted p) (Rejected other) h k
+verdict_once text (Accepted p) (Accepted q) h k = judged_once text (Accepted p) (Accepted q) h k
 
 -- what a program part is, is all that it is
-pub decided : (j : Job) (text : List ℕ) (v : Verdict) → HasVerdict j text v → Decides j text v
-decided j text v h = record { has = h; only = λ w k. verdict_once j text v w h k }
+pub decided : (text : List ℕ) (v : Verdict) → HasVerdict text v → Decides text v
+decided text v h = record { has = h; only = λ w k. verdict_once text v w h k }

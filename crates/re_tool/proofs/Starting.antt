@@ -3,76 +3,102 @@ use Rattle.std.proofs.Common.{arith, ◌≡◌, ◌≤◌, ◌<◌, ◌++◌, �
 use Rattle.std.specs.Prelude.{map}
 use Rattle.std.specs.List.{flat_map}
 use Rattle.std.proofs.lemmas.List.{length-append, append-nil}
-use Rattle.std.proofs.lemmas.List.Elements.{All-nil}
+use Rattle.re_compact.specs.declared.fault.OpenFault.{OpenFault}
+use Rattle.re_compact.specs.declared.fault.OpenFault.TheVariants as open
 use Rattle.re_outside.specs.Outside.{Seen, Does, Breaks, IsAtEnd, none}
-use Rattle.re_outside.proofs.Does.{does-nil, does_well, breaks_does}
+use Rattle.re_outside.proofs.Does.{breaks_does, does-nil}
 use Rattle.re_print.specs.Canonical.{program_text}
+use Rattle.re_session.specs.Serving.{Goes}
+use Rattle.re_session.proofs.Acting.{does_goes, goes_on}
+use Rattle.re_terms.specs.DeviceWorlds.{Outcome, World}
 use Rattle.re_terms.specs.declared.program.Program.{Program}
-use Rattle.re_terms.specs.DeviceWorlds.{Outcome, blank_world}
-use Rattle.re_tool.specs.declared.reader.Reader.{Reader}
-use Rattle.re_tool.specs.declared.words.Job.{Job}
-use Rattle.re_tool.specs.declared.words.Job.TheVariants as job
-use Rattle.re_tool.specs.declared.faults.Refusal.{Refusal}
-use Rattle.re_tool.specs.declared.status.Status.{Status}
-use Rattle.re_tool.specs.declared.status.Status.TheVariants as status
-use Rattle.re_tool.specs.Acts.{OrderedIn}
-use Rattle.re_tool.specs.Answers.{IsFineOrMemory, Session, session_of, session_in, answers, close, checked_text, ending_in, reading_end, session_text, first_lines}
-use Rattle.re_tool.specs.Endings.{Ending, Done, RefusedProgram, InputFault, NoMemory, InputTooLong, status_at, last_line}
+use Rattle.re_tool.specs.Acts.{Course, IsOpening, OpensAs, opens_none, reads}
+use Rattle.re_tool.specs.Answers.{Outcomes, Session, answers_text, checked_text, done, ending, ending_in, ending_with, first_lines, reading_end, session_in, session_of, session_text, unopened_end}
 use Rattle.re_tool.specs.Clipped.{Clipped}
-use Rattle.re_unstored.specs.Device.{DeviceState}
-use Rattle.re_tool.specs.Device.{IsDeviceOf}
+use Rattle.re_tool.specs.Endings.{Ending, Done, RefusedProgram, InputFault, NoMemory, InputTooLong, status_at, last_line}
 use Rattle.re_tool.specs.Lines.{split, ended, without_return}
 use Rattle.re_tool.specs.Part.{Part, divided, part_of, part_in}
 use Rattle.re_tool.specs.PartReading.{Divides, ReadsAll, PartFails, PartTooLong, PartStops, PartIs}
 use Rattle.re_tool.specs.Reads.{limit}
 use Rattle.re_tool.specs.Serving.{Starts}
-use Rattle.re_tool.specs.Session.{Runs, Finishes, HasSeparator, lines_of, part_lines}
+use Rattle.re_tool.specs.Session.{FilesOpen, Finishes, HasSeparator, MayBegin, ReadFar, Runs, Unanswered, lines_of, part_lines}
 use Rattle.re_tool.specs.Verdict.{Verdict, Unknown, Rejected, Accepted, Decides, IsJudged}
-use Rattle.re_tool.proofs.Endings.{answers_to, ends_input, ends_done, ends_long, near_finish, separated_on}
-use Rattle.re_tool.proofs.Ends.{stops_none, stops_input, ends_output}
-use Rattle.re_tool.proofs.Orders.{ordered_all}
+use Rattle.re_tool.specs.declared.faults.Refusal.{Refusal}
+use Rattle.re_tool.specs.declared.reader.Reader.{Reader}
+use Rattle.re_tool.specs.declared.status.Status.{Status}
+use Rattle.re_tool.specs.declared.status.Status.TheVariants as status
+use Rattle.re_tool.specs.declared.words.Job.{Job}
+use Rattle.re_tool.specs.declared.words.Job.TheVariants as job
+use Rattle.re_tool.proofs.Endings.{course_all, end_on, ends_done, ends_input, ends_long, files_all, near_finish, runs_on, separated_on, text_all}
+use Rattle.re_tool.proofs.Ends.{Ran, ran_breaks, ran_goes, ran_input, ran_says}
+use Rattle.re_tool.proofs.Orders.{Reached}
 use Rattle.re_tool.proofs.Programs.{verdict-kept}
-use Rattle.re_tool.proofs.Sessions.{Near, with_lines, judged_at, session_at}
+use Rattle.re_tool.proofs.Sessions.{Near, judged_at, session_at, with_lines}
 use Rattle.re_tool.proofs.Splits.{split_lines, part_short}
+use Rattle.re_world.specs.State.{WorldState}
 
-no_lines : (s : Option Session) (os : List Outcome) → session_text blank_world (first_lines 0 s) os ≡ []
-no_lines None os = refl
-no_lines (Some s) os = refl
+-- ---- runs without a session
 
-none_done : (s : Option Session) → length (lines_of (first_lines 0 s)) ≡ 0
-none_done None = refl
-none_done (Some s) = refl
+none_open : (start : Program → World) (session : Option Session) (os : List Outcome) (s : Seen) → session ≡ None → FilesOpen start session os s
+none_open start session os s e = subst (λ x. FilesOpen start x os s) (sym e) tt
 
-none_ordered : (a b : Seen) (s : Option Session) (read : List ℕ) → Does a b read [] none → OrderedIn a b blank_world (first_lines 0 s) [] []
-none_ordered a b None read d = (refl, refl, (read, d))
-none_ordered a b (Some s) read d = ordered_all a a b s.program (blank_world s.program) [] [] read refl refl d
+none_said : (start : Program → World) (session : Option Session) (os : List Outcome) → session ≡ None → session_text start session os ≡ []
+none_said start session os e = ap (λ x. session_text start x os) e
 
-unknown : (j : Job) (part : Option Part) → IsJudged j Unknown part (Some (0, true))
-unknown j None = refl
-unknown j (Some part) = inr (refl, refl)
+none_first : (n : ℕ) (session : Option Session) → session ≡ None → first_lines n session ≡ None
+none_first n session e = ap (first_lines n) e
+
+no_lines_of : (s : Option Session) (n : ℕ) → s ≡ None → length (lines_of s) ≤ n
+no_lines_of s n e = omega (arith, ap (λ x. length (lines_of x)) e)
+
+-- what isn't accepted has no session
+unknown_session : (j : Job) (read : List ℕ) (failed : Bool) → session_of j Unknown None read failed ≡ None
+unknown_session job.Run read failed = refl
+unknown_session job.Check read failed = refl
+
+rejected_session : (j : Job) (why : Refusal) (read : List ℕ) (failed : Bool) → session_of j (Rejected why) None read failed ≡ None
+rejected_session job.Run why read failed = refl
+rejected_session job.Check why read failed = refl
+
+unopened_session : (p : Program) (u : ℕ × OpenFault) (part : Option Part) → session_in (Accepted p) (Some u) part ≡ None
+unopened_session p u None = refl
+unopened_session p u (Some part) = refl
+
+unknown : (part : Option Part) → IsJudged Unknown part (Some (0, true))
+unknown None = refl
+unknown (Some part) = inr (refl, refl)
+
+none_judged : (part : Option Part) (stopped : Option (ℕ × Bool)) → part ≡ None → IsJudged Unknown part stopped
+none_judged part stopped e = subst (λ x. IsJudged Unknown x stopped) (sym e) refl
+
+ran_read : (a b : Seen) (read : List ℕ) → Does a b read [] none → Ran a b read [] false false
+ran_read a b read d = ran_goes a b read [] (does_goes a b read [] d)
 
 -- memory ran out before the first line
 pub near_stops : (j : Job) (a b : Seen) (read : List ℕ) → length read ≤ limit → Does a b read [] none → Near j a b NoMemory
 near_stops j a b read few d =
-    let complete : length (lines_of (first_lines 0 (session_of j Unknown read false))) ≤ length (part_lines (part_of read true)) = omega (arith, none_done (session_of j Unknown read false)) in
+    let is : first_lines 0 (session_of j Unknown None read false) ≡ None = none_first 0 _ (unknown_session j read false) in
     record {
       read = read;
       few = omega arith;
-      outcomes = record { commands = []; input_failed = false; stopped = Some (0, true) };
-      fared = All-nil IsFineOrMemory;
+      outcomes = record { commands = []; unopened = None; input_failed = false; stopped = Some (0, true) };
       verdict = Unknown;
-      judged = unknown j (part_of read false);
+      judged = unknown (part_of read false);
       text = [];
-      does = stops_none a b read [] d;
+      ran = ran_read a b read d;
+      lines = [];
+      fared = refl;
       unanswered = [];
       unsaid = omega arith;
       calm = b;
+      course = reads is refl refl refl d;
       halts = refl;
       at_input = λ h. absurd (cc);
-      ordered = none_ordered a b (session_of j Unknown read false) read d;
-      answer = ap (close NoMemory) (no_lines (session_of j Unknown read false) []);
-      complete = inl complete;
-      far = inl complete;
+      ending_is = refl;
+      answer = λ start h. none_said start _ [] is;
+      files = λ start h. none_open start _ [] b is;
+      complete = inl (no_lines_of _ _ is);
+      far = inl (no_lines_of _ _ is);
     }
 
 pub near_part_stops : (j : Job) (a b : Seen) → PartStops a b → Near j a b NoMemory
@@ -83,251 +109,380 @@ near_part_is j a b r text true s = near_stops j a b s.read (omega (arith, s.take
 near_part_is j a b r text false s = near_stops j a b s.read s.few s.does
 
 -- what is said where no job goes on
-no_session : (j : Job) (v : Verdict) (read : List ℕ) (failed : Bool) (part : Option Part) (s : Ending) → part_of read failed ≡ part → session_in v part ≡ None → checked_text v part ≡ [] → ending_in j v part (reading_end read failed) ≡ s
-    → answers j v blank_world read record { commands = []; input_failed = failed; stopped = None } ≡ close s []
-no_session job.Run v read failed part s is lacks says st =
-    ap (λ x. close x (session_text blank_world (session_of job.Run v read failed) [])) (ap (λ x. ending_in job.Run v x (reading_end read failed)) is ∙ st)
-    ∙ ap (λ x. close s (session_text blank_world x [])) (ap (session_in v) is ∙ lacks)
-no_session job.Check v read failed part s is lacks says st =
-    ap (λ x. close x (checked_text v (part_of read failed))) (ap (λ x. ending_in job.Check v x (reading_end read failed)) is ∙ st)
-    ∙ ap (close s) (ap (checked_text v) is ∙ says)
+unknown_text : (j : Job) (read : List ℕ) (start : Program → World) (failed : Bool) → answers_text j Unknown start read record { commands = []; unopened = None; input_failed = failed; stopped = None } ≡ []
+unknown_text job.Run read start failed = refl
+unknown_text job.Check read start failed = refl
 
--- a program part that isn't accepted has no session
-unknown_session : (j : Job) (read : List ℕ) (failed : Bool) → session_of j Unknown read failed ≡ None
-unknown_session job.Run read failed = refl
-unknown_session job.Check read failed = refl
-
-rejected_session : (j : Job) (why : Refusal) (read : List ℕ) (failed : Bool) → session_of j (Rejected why) read failed ≡ None
-rejected_session job.Run why read failed = refl
-rejected_session job.Check why read failed = refl
-
-no_order : (a b : Seen) (s : Option Session) (read : List ℕ) → s ≡ None → Does a b read [] none → OrderedIn a b blank_world s [] []
-no_order a b s read e d = subst (λ x. OrderedIn a b blank_world x [] []) (sym e) (refl, refl, (read, d))
-
-no_lines_of : (s : Option Session) (n : ℕ) → s ≡ None → length (lines_of s) ≤ n
-no_lines_of s n e = omega (arith, ap (λ x. length (lines_of x)) e)
-
-none_judged : (j : Job) (part : Option Part) (stopped : Option (ℕ × Bool)) → part ≡ None → IsJudged j Unknown part stopped
-none_judged j part stopped e = subst (λ x. IsJudged j Unknown x stopped) (sym e) refl
+rejected_text : (j : Job) (why : Refusal) (read : List ℕ) (start : Program → World) → answers_text j (Rejected why) start read record { commands = []; unopened = None; input_failed = false; stopped = None } ≡ []
+rejected_text job.Run why read start = refl
+rejected_text job.Check why read start = refl
 
 -- the input failed before the program part ended
 pub near_part_failed : (j : Job) (a b : Seen) → PartFails a b → Near j a b InputFault
-near_part_failed j a b f = record {
-  read = f.read;
-  few = omega (arith, f.few);
-  outcomes = record { commands = []; input_failed = true; stopped = None };
-  fared = All-nil IsFineOrMemory;
-  verdict = Unknown;
-  judged = none_judged j _ _ f.is_none;
-  text = [];
-  does = stops_input a f.mid b f.read [] f.does f.fails;
-  unanswered = [];
-  unsaid = refl;
-  calm = f.mid;
-  ordered = no_order a f.mid _ f.read (unknown_session j f.read true) f.does;
-  halts = f.fails;
-  at_input = λ h. refl;
-  answer = no_session j Unknown f.read true None InputFault f.is_none refl refl (ends_input f.read f.few);
-  complete = inl (no_lines_of _ _ (unknown_session j f.read true));
-  far = tt;
-}
+near_part_failed j a b f =
+    let is = unknown_session j f.read true in
+    record {
+      read = f.read;
+      few = omega (arith, f.few);
+      outcomes = record { commands = []; unopened = None; input_failed = true; stopped = None };
+      verdict = Unknown;
+      judged = none_judged _ _ f.is_none;
+      text = [];
+      ran = ran_input a f.mid b f.read [] (ran_read a f.mid f.read f.does) f.fails;
+      lines = [];
+      fared = refl;
+      unanswered = [];
+      unsaid = refl;
+      calm = f.mid;
+      course = reads is refl refl refl f.does;
+      halts = f.fails;
+      at_input = λ h. refl;
+      ending_is = ap (λ x. ending_in j Unknown None x (reading_end f.read true)) f.is_none ∙ ends_input f.read f.few;
+      answer = λ start h. unknown_text j f.read start true;
+      files = λ start h. none_open start _ [] b is;
+      complete = inl (no_lines_of _ _ is);
+      far = tt;
+    }
 
 -- too much input came before the program part ended
 pub near_part_too_long : (j : Job) (a b : Seen) → PartTooLong a b → Near j a b InputTooLong
 near_part_too_long j a b f =
     let over : limit < length f.read = omega (arith, f.long) in
+    let is = unknown_session j f.read false in
     record {
       read = f.read;
       few = omega (arith, f.long);
-      outcomes = record { commands = []; input_failed = false; stopped = None };
-      fared = All-nil IsFineOrMemory;
+      outcomes = record { commands = []; unopened = None; input_failed = false; stopped = None };
       verdict = Unknown;
-      judged = none_judged j _ _ f.is_none;
+      judged = none_judged _ _ f.is_none;
       text = [];
-      does = stops_none a b f.read [] f.does;
+      ran = ran_read a b f.read f.does;
+      lines = [];
+      fared = refl;
       unanswered = [];
       unsaid = refl;
       calm = b;
-      ordered = no_order a b _ f.read (unknown_session j f.read false) f.does;
+      course = reads is refl refl refl f.does;
       halts = refl;
       at_input = λ h. absurd (cc);
-      answer = no_session j Unknown f.read false None InputTooLong f.is_none refl refl (ends_long f.read false over);
-      complete = inl (no_lines_of _ _ (unknown_session j f.read false));
+      ending_is = ap (λ x. ending_in j Unknown None x (reading_end f.read false)) f.is_none ∙ ends_long f.read false over;
+      answer = λ start h. unknown_text j f.read start false;
+      files = λ start h. none_open start _ [] b is;
+      complete = inl (no_lines_of _ _ is);
       far = tt;
     }
 
--- a program part that is refused ends the run
-refused : (j : Job) (a b : Seen) (read : List ℕ) (why : Refusal) (part : Part) → length read ≤ limit → part_of read false ≡ Some part → Decides j part.text (Rejected why) → Does a b read [] none → HasSeparator read ⊎ IsAtEnd b → Near j a b (RefusedProgram why)
-refused j a b read why part few is h d far = record {
-  read = read;
-  few = omega (arith, few);
-  outcomes = record { commands = []; input_failed = false; stopped = None };
-  fared = All-nil IsFineOrMemory;
-  verdict = Rejected why;
-  judged = subst (λ x. IsJudged j (Rejected why) x None) (sym is) (inl h);
-  text = [];
-  does = stops_none a b read [] d;
-  unanswered = [];
-  unsaid = refl;
-  calm = b;
-  ordered = no_order a b _ read (rejected_session j why read false) d;
-  halts = refl;
-  at_input = λ h. absurd (cc);
-  answer = no_session j (Rejected why) read false (Some part) (RefusedProgram why) is refl refl refl;
-  complete = inl (no_lines_of _ _ (rejected_session j why read false));
-  far = (few, far);
-}
+-- ---- program parts that were read whole
 
-kept_verdict : (j : Job) (v : Verdict) (text : Clipped) (part : List ℕ) → text ≡ record { items = take 65537 part; most = 65537 } → Decides j text.items v → Decides j part v
-kept_verdict j v text part e h = verdict-kept j part v (subst (λ (t : Clipped). Decides j t.items v) e h)
+-- a program part was read whole, and has this verdict
+pub record IsWhole (a b : Seen) (v : Verdict) : Type 0 where
+  pub read : List ℕ
+  pub few : length read ≤ limit
+  pub part : Part
+  pub is_part : part_of read false ≡ Some part
+  pub verdict : Decides part.text v
+  pub does : Does a b read [] none
+  pub far : HasSeparator read ⊎ IsAtEnd b
 
--- what `check` says of an accepted program part
-check_answers : (read : List ℕ) (part : Part) (p : Program) → part_of read false ≡ Some part
-    → answers job.Check (Accepted p) blank_world read record { commands = []; input_failed = false; stopped = None } ≡ (program_text p ++ [], Done)
-check_answers read part p is =
-    ap (λ x. close x (checked_text (Accepted p) (part_of read false))) (ap (λ x. ending_in job.Check (Accepted p) x (reading_end read false)) is)
-    ∙ ap (λ x. close Done (checked_text (Accepted p) x)) is
-
-check_judged : (read : List ℕ) (part : Part) (p : Program) → part_of read false ≡ Some part → Decides job.Check part.text (Accepted p) → IsJudged job.Check (Accepted p) (part_of read false) None
-check_judged read part p is h = subst (λ x. IsJudged job.Check (Accepted p) x None) (sym is) (inl h)
-
-said_all : (a b c : Seen) (read : List ℕ) (part : Part) (p : Program) → length read ≤ limit → part_of read false ≡ Some part → Decides job.Check part.text (Accepted p) → Does a b read [] none → HasSeparator read ⊎ IsAtEnd b → Does b c [] (program_text p) none
-    → Runs job.Check a c status.Done
-said_all a b c read part p few is h d far says =
-    let answer = check_answers read part p is in
-    record {
-      read = read;
-      few = omega (arith, few);
-      outcomes = record { commands = []; input_failed = false; stopped = None };
-      fared = All-nil IsFineOrMemory;
-      verdict = Accepted p;
-      judged = check_judged read part p is h;
-      text = program_text p;
-      does = stops_none a c read (program_text p) (does_well a b c read [] (program_text p) none d says);
-      tells = (ap (λ (x : List ℕ × Ending). x.0) answer ∙ append-nil (program_text p), ap (λ (x : List ℕ × Ending). status_at x.1) answer);
-      unanswered = [];
-      whole = refl;
-      answered = λ h. refl;
-      calm = b;
-      ordered = (refl, refl, (read, d));
-      halted = b;
-      halts = refl;
-      last = program_text p;
-      closes = says;
-      only = tt;
-      far = (few, separated_on read b c says far);
-    }
-
-said_front : (a b c : Seen) (read : List ℕ) (part : Part) (p : Program) → length read ≤ limit → part_of read false ≡ Some part → Decides job.Check part.text (Accepted p) → Does a b read [] none → Breaks b c (program_text p) none
-    → Runs job.Check a c status.Output
-said_front a b c read part p few is h d breaks =
-    let answer = check_answers read part p is in
-    record {
-      read = read;
-      few = omega (arith, few);
-      outcomes = record { commands = []; input_failed = false; stopped = None };
-      fared = All-nil IsFineOrMemory;
-      verdict = Accepted p;
-      judged = check_judged read part p is h;
-      text = breaks.front;
-      does = ends_output a b c false read [] breaks.front (stops_none a b read [] d) (breaks_does b c (program_text p) none breaks);
-      tells = (breaks.rest, ap (λ (x : List ℕ × Ending). x.0) answer ∙ append-nil (program_text p) ∙ breaks.whole);
-      unanswered = [];
-      whole = omega arith;
-      answered = λ h. refl;
-      calm = b;
-      ordered = (refl, refl, (read, d));
-      halted = b;
-      halts = refl;
-      last = program_text p;
-      closes = breaks;
-      only = tt;
-      far = inl (omega arith);
-    }
+kept_verdict : (v : Verdict) (text : Clipped) (part : List ℕ) → text ≡ record { items = take 65537 part; most = 65537 } → Decides text.items v → Decides part v
+kept_verdict v text part e h = verdict-kept part v (subst (λ (t : Clipped). Decides t.items v) e h)
 
 module _ (a b : Seen) (r : Reader) (text : Clipped) (d : Divides r text a b) where
-  pub divided_short : length d.read ≤ limit
+  divided_short : length d.read ≤ limit
   divided_short = omega (arith, d.taken, d.few)
 
   divided_split : split d.read ≡ (d.head ++ (split r.chunk).0, (split r.chunk).1)
   divided_split = ap split d.whole ∙ split_lines d.head r.chunk d.plain
 
-  pub is_divided_part : part_of d.read false ≡ Some (record { text = flat_map ended d.front; lines = map without_return (split r.chunk).0 ++ (split r.chunk).1 ∷ [] })
+  is_divided_part : part_of d.read false ≡ Some (record { text = flat_map ended d.front; lines = map without_return (split r.chunk).0 ++ (split r.chunk).1 ∷ [] })
   is_divided_part =
       let e : part_in (d.head ++ (split r.chunk).0, (split r.chunk).1) false ≡ Some (record { text = flat_map ended d.front; lines = map without_return (split r.chunk).0 ++ (split r.chunk).1 ∷ [] }) = rw (d.divides (split r.chunk).0) refl in
       part_short d.read false divided_short ∙ ap (λ q. part_in q false) divided_split ∙ e
 
-  pub has_separator : HasSeparator d.read
+  has_separator : HasSeparator d.read
   has_separator =
       let e : divided (split d.read).0 ≡ Some (d.front, (split r.chunk).0) = ap (λ (q : List (List ℕ) × List ℕ). divided q.0) divided_split ∙ d.divides (split r.chunk).0 in
       subst IsSome (sym e) refl
 
-  pub near_divided_refused : (j : Job) (why : Refusal) → Decides j text.items (Rejected why) → Near j a b (RefusedProgram why)
-  near_divided_refused j why h =
-      refused j a b d.read why (record { text = flat_map ended d.front; lines = map without_return (split r.chunk).0 ++ (split r.chunk).1 ∷ [] }) divided_short is_divided_part (kept_verdict j (Rejected why) text (flat_map ended d.front) d.keeps h) d.does (inl has_separator)
+  divided_whole : (v : Verdict) → Decides text.items v → IsWhole a b v
+  divided_whole v h = record {
+    read = d.read;
+    few = divided_short;
+    part = _;
+    is_part = is_divided_part;
+    verdict = kept_verdict v text (flat_map ended d.front) d.keeps h;
+    does = d.does;
+    far = inl has_separator;
+  }
 
-  pub divided_starts : (p : Program) (device : DeviceState) → Decides job.Run text.items (Accepted p) → IsDeviceOf p (blank_world p) device → Starts a b p r device
-  divided_starts p device is rep = record {
+  -- behind it the devices are opened
+  pub divided_starts : (c : Seen) (p : Program) (devices : WorldState) → Decides text.items (Accepted p) → OpensAs p devices b c → Starts a c p r devices
+  divided_starts c p devices is opens = record {
     read = d.read;
     front = d.front;
     head = d.head;
     plain = d.plain;
     divides = d.divides;
-    program = kept_verdict job.Run (Accepted p) text (flat_map ended d.front) d.keeps is;
+    program = kept_verdict (Accepted p) text (flat_map ended d.front) d.keeps is;
     whole = d.whole;
     taken = d.taken;
     few = d.few;
+    part_read = b;
     does = d.does;
-    stands = rep;
+    opens = opens;
   }
 
-module _ (a b : Seen) (r : Reader) (text : Clipped) (d : ReadsAll r text a b) where
-  pub near_all_refused : (j : Job) (why : Refusal) → Decides j text.items (Rejected why) → Near j a b (RefusedProgram why)
-  near_all_refused j why h = refused j a b d.read why (record { text = d.part; lines = [] }) d.few d.is_part (kept_verdict j (Rejected why) text d.part d.keeps h) d.does (inr d.end)
+all_whole : (a b : Seen) (r : Reader) (text : Clipped) (d : ReadsAll r text a b) (v : Verdict) → Decides text.items v → IsWhole a b v
+all_whole a b r text d v h = record {
+  read = d.read;
+  few = d.few;
+  part = _;
+  is_part = d.is_part;
+  verdict = kept_verdict v text d.part d.keeps h;
+  does = d.does;
+  far = inr d.end;
+}
 
-  pub all_done : (p : Program) → Decides job.Run text.items (Accepted p) → Runs job.Run a b status.Done
-  all_done p is =
-      let program = kept_verdict job.Run (Accepted p) text d.part d.keeps is in
-      let session : session_of job.Run (Accepted p) d.read false ≡ with_lines p [] = session_at p _ _ _ d.is_part in
-      let answer = answers_to d.read false p [] [] Done session (ends_done d.read d.few) in
+pub part_whole : (a b : Seen) (r : Reader) (text : Clipped) (d : Bool) (v : Verdict) → PartIs r text d a b → Decides text.items v → IsWhole a b v
+part_whole a b r text true v s h = divided_whole a b r text s v h
+part_whole a b r text false v s h = all_whole a b r text s v h
+
+-- a program part that is refused ends the run
+pub near_refused : (j : Job) (a b : Seen) (why : Refusal) → IsWhole a b (Rejected why) → Near j a b (RefusedProgram why)
+near_refused j a b why w =
+    let is = rejected_session j why w.read false in
+    record {
+      read = w.read;
+      few = omega (arith, w.few);
+      outcomes = record { commands = []; unopened = None; input_failed = false; stopped = None };
+      verdict = Rejected why;
+      judged = subst (λ x. IsJudged (Rejected why) x None) (sym w.is_part) (inl w.verdict);
+      text = [];
+      ran = ran_read a b w.read w.does;
+      lines = [];
+      fared = refl;
+      unanswered = [];
+      unsaid = refl;
+      calm = b;
+      course = reads is refl refl refl w.does;
+      halts = refl;
+      at_input = λ h. absurd (cc);
+      ending_is = ap (λ x. ending_in j (Rejected why) None x (reading_end w.read false)) w.is_part;
+      answer = λ start h. rejected_text j why w.read start;
+      files = λ start h. none_open start _ [] b is;
+      complete = inl (no_lines_of _ _ is);
+      far = (w.few, w.far);
+    }
+
+-- ---- devices that don't open
+
+accepted_part : (p : Program) (a b : Seen) (w : IsWhole a b (Accepted p)) (stopped : Option (ℕ × Bool)) → IsJudged (Accepted p) (part_of w.read false) stopped
+accepted_part p a b w stopped = subst (λ x. IsJudged (Accepted p) x stopped) (sym w.is_part) (inl w.verdict)
+
+-- the end, or the separator, was read before
+far_behind : (read : List ℕ) (b c : Seen) → Goes b c [] [] → HasSeparator read ⊎ IsAtEnd b → HasSeparator read ⊎ IsAtEnd c
+far_behind read b c g (inl h) = inl h
+far_behind read b c g (inr h) = inr (end_on b c [] g h)
+
+opening_goes : (a b c : Seen) (read : List ℕ) → Does a b read [] none → Goes b c [] [] → Goes a c read []
+opening_goes a b c read d g = subst (λ x. Goes a c x []) (append-nil read) (goes_on a b c read [] [] [] (does_goes a b read [] d) g)
+
+-- how far the input was read where a device doesn't open
+unopened_far : (p : Program) (u : ℕ × OpenFault) (read : List ℕ) (o : Outcomes) (c : Seen) → length (lines_of (done job.Run (Accepted p) read o)) ≤ 0 → length read ≤ limit → HasSeparator read ⊎ IsAtEnd c → ReadFar job.Run (status_at (unopened_end p u)) (Accepted p) read o c
+unopened_far p (d, open.Memory) read o c none few far = inl (omega arith)
+unopened_far p (d, open.Disk) read o c none few far = (few, far)
+unopened_far p (d, open.BadStore file at) read o c none few far = (few, far)
+unopened_far p (d, open.OtherProgram) read o c none few far = (few, far)
+
+unopened_unsaid : (p : Program) (u : ℕ × OpenFault) → Unanswered (status_at (unopened_end p u)) []
+unopened_unsaid p (d, open.Memory) = omega arith
+unopened_unsaid p (d, open.Disk) = refl
+unopened_unsaid p (d, open.BadStore file at) = refl
+unopened_unsaid p (d, open.OtherProgram) = refl
+
+module _ (a b c : Seen) (p : Program) (u : ℕ × OpenFault) (w : IsWhole a b (Accepted p)) (o : IsOpening p (Some u) b c) where
+  pub near_unopened : Near job.Run a c (unopened_end p u)
+  near_unopened =
+      let is : session_of job.Run (Accepted p) (Some u) w.read false ≡ None = unopened_session p u (part_of w.read false) in
       record {
-        read = d.read;
-        few = omega (arith, d.few);
-        outcomes = record { commands = []; input_failed = false; stopped = None };
-        fared = All-nil IsFineOrMemory;
+        read = w.read;
+        few = omega (arith, w.few);
+        outcomes = record { commands = []; unopened = Some u; input_failed = false; stopped = None };
         verdict = Accepted p;
-        judged = judged_at p _ _ _ None d.is_part program;
+        judged = accepted_part p a b w None;
         text = [];
-        does = stops_none a b d.read [] d.does;
-        tells = (ap (λ (x : List ℕ × Ending). x.0) answer, ap (λ (x : List ℕ × Ending). status_at x.1) answer);
+        ran = ran_goes a c w.read [] (opening_goes a b c w.read w.does o.goes);
+        lines = [];
+        fared = refl;
+        unanswered = [];
+        unsaid = unopened_unsaid p u;
+        calm = c;
+        course = opens_none refl refl refl is refl refl w.does o;
+        halts = refl;
+        at_input = λ h. absurd (cc);
+        ending_is = ap (λ x. ending_in job.Run (Accepted p) (Some u) x (reading_end w.read false)) w.is_part;
+        answer = λ start h. none_said start _ [] is;
+        files = λ start h. none_open start _ [] c is;
+        complete = inl (no_lines_of _ _ is);
+        far = unopened_far p u w.read _ c (no_lines_of _ 0 is) w.few (far_behind w.read b c o.goes w.far);
+      }
+
+  -- and memory runs out for saying so
+  pub near_unopened_memory : Near job.Run a c NoMemory
+  near_unopened_memory =
+      let is : first_lines 0 (session_of job.Run (Accepted p) (Some u) w.read false) ≡ None = none_first 0 _ (unopened_session p u (part_of w.read false)) in
+      record {
+        read = w.read;
+        few = omega (arith, w.few);
+        outcomes = record { commands = []; unopened = Some u; input_failed = false; stopped = Some (0, true) };
+        verdict = Accepted p;
+        judged = accepted_part p a b w (Some (0, true));
+        text = [];
+        ran = ran_goes a c w.read [] (opening_goes a b c w.read w.does o.goes);
+        lines = [];
+        fared = refl;
+        unanswered = [];
+        unsaid = omega arith;
+        calm = c;
+        course = opens_none refl refl refl is refl refl w.does o;
+        halts = refl;
+        at_input = λ h. absurd (cc);
+        ending_is = refl;
+        answer = λ start h. none_said start _ [] is;
+        files = λ start h. none_open start _ [] c is;
+        complete = inl (no_lines_of _ _ is);
+        far = inl (no_lines_of _ _ is);
+      }
+
+-- the line of a device that doesn't open is said, or memory runs out for it
+pub unopened_finish : (a b c e : Seen) (p : Program) (u : ℕ × OpenFault) (x : Status) → IsWhole a b (Accepted p) → IsOpening p (Some u) b c → (status_at (unopened_end p u) ≡ status.Output → ⊥) → Finishes c e (last_line (unopened_end p u)) (status_at (unopened_end p u)) x ⊎ Finishes c e (last_line NoMemory) status.Memory x → Runs job.Run a e x
+unopened_finish a b c e p u x w o other (inl f) = near_finish job.Run a c e (unopened_end p u) (near_unopened a b c p u w o) x other f
+unopened_finish a b c e p u x w o other (inr f) = near_finish job.Run a c e NoMemory (near_unopened_memory a b c p u w o) x (λ q. absurd (cc)) f
+
+-- ---- sessions without lines
+
+-- the whole input is the program part, and the devices are opened behind it
+pub all_done : (a b c : Seen) (r : Reader) (text : Clipped) (p : Program) (devices : WorldState) → ReadsAll r text a b → Decides text.items (Accepted p) → OpensAs p devices b c → Runs job.Run a c status.Done
+all_done a b c r text p devices d is opens =
+    let program = kept_verdict (Accepted p) text d.part d.keeps is in
+    let session : session_of job.Run (Accepted p) None d.read false ≡ with_lines p [] = session_at p _ _ _ d.is_part in
+    let reached : Reached a c p [] devices = record { part = d.read; part_read = b; reads_part = d.does; devices = devices; opened = c; opens = opens; mid = c; acts = (refl, refl); ahead = []; reads = does-nil c } in
+    let ran = ran_goes a c d.read [] (opening_goes a b c d.read d.does opens.opening.goes) in
+    let end = runs_on p (part_of d.read false) (reading_end d.read false) ∙ ends_done d.read d.few in
+    record {
+      read = d.read;
+      few = omega (arith, d.few);
+      outcomes = record { commands = []; unopened = None; input_failed = false; stopped = None };
+      verdict = Accepted p;
+      judged = judged_at p _ _ _ None d.is_part program;
+      text = [];
+      faults = ran.faults;
+      input = ran.input;
+      output = ran.output;
+      does = ran.does;
+      ends = ap status_at end;
+      tells = λ start h. ap (λ x. session_text start (session_of job.Run (Accepted p) None d.read false) [] ++ last_line x) end ∙ append-nil _ ∙ text_all a c p [] devices reached _ session start h;
+      files = files_all a c p [] devices reached _ session;
+      lines = [];
+      fared = refl;
+      unanswered = [];
+      whole = refl;
+      answered = λ h. refl;
+      calm = c;
+      course = course_all a c p [] devices _ session reached;
+      halted = c;
+      halts = refl;
+      last = [];
+      closes = does-nil c;
+      only = tt;
+      far = end_on b c [] opens.opening.goes d.end;
+    }
+
+-- ---- `check`
+
+-- what `check` says of an accepted program part
+check_text : (start : Program → World) (read : List ℕ) (part : Part) (p : Program) → part_of read false ≡ Some part → answers_text job.Check (Accepted p) start read record { commands = []; unopened = None; input_failed = false; stopped = None } ≡ program_text p
+check_text start read part p is = ap (checked_text (Accepted p)) is
+
+check_end : (read : List ℕ) (part : Part) (p : Program) → part_of read false ≡ Some part → ending job.Check (Accepted p) read record { commands = []; unopened = None; input_failed = false; stopped = None } ≡ Done
+check_end read part p is = ap (λ x. ending_in job.Check (Accepted p) None x (reading_end read false)) is
+
+module _ (a b c : Seen) (p : Program) (w : IsWhole a b (Accepted p)) where
+  said_all : Does b c [] (program_text p) none → Runs job.Check a c status.Done
+  said_all says =
+      let ran = ran_says a b c w.read [] (program_text p) false (ran_read a b w.read w.does) says in
+      record {
+        read = w.read;
+        few = omega (arith, w.few);
+        outcomes = record { commands = []; unopened = None; input_failed = false; stopped = None };
+        verdict = Accepted p;
+        judged = accepted_part p a b w None;
+        text = program_text p;
+        faults = ran.faults;
+        input = ran.input;
+        output = ran.output;
+        does = ran.does;
+        ends = ap status_at (check_end w.read w.part p w.is_part);
+        tells = λ start h. ap (λ x. checked_text (Accepted p) (part_of w.read false) ++ last_line x) (check_end w.read w.part p w.is_part) ∙ append-nil _ ∙ check_text start w.read w.part p w.is_part;
+        files = λ start h. tt;
+        lines = [];
+        fared = refl;
         unanswered = [];
         whole = refl;
         answered = λ h. refl;
         calm = b;
-        ordered = subst (λ x. OrderedIn a b blank_world x [] []) (sym session) (ordered_all a a b p (blank_world p) [] [] d.read refl refl d.does);
+        course = reads refl refl refl refl w.does;
         halted = b;
         halts = refl;
-        last = [];
-        closes = does-nil b;
+        last = program_text p;
+        closes = says;
         only = tt;
-        far = d.end;
+        far = (w.few, separated_on w.read b c says w.far);
       }
 
--- a program part is refused, or memory runs out for saying so
-pub refused_finish : (j : Job) (a b c : Seen) (r : Reader) (text : Clipped) (d : Bool) (x : Status) → PartIs r text d a b → (why : Refusal) → Decides j text.items (Rejected why) → Finishes b c (last_line (RefusedProgram why)) status.Program x ⊎ Finishes b c (last_line NoMemory) status.Memory x → Runs j a c x
-unfolding near_all_refused refused near_divided_refused
-refused_finish j a b c r text true x p why h (inl f) = near_finish j a b c (RefusedProgram why) (near_divided_refused a b r text p j why h) x (λ q. absurd (cc)) f
-refused_finish j a b c r text false x p why h (inl f) = near_finish j a b c (RefusedProgram why) (near_all_refused a b r text p j why h) x (λ q. absurd (cc)) f
-refused_finish j a b c r text d x p why h (inr f) = near_finish j a b c NoMemory (near_part_is j a b r text d p) x (λ q. absurd (cc)) f
+  said_front : Breaks b c (program_text p) none → Runs job.Check a c status.Output
+  said_front breaks =
+      let ran = ran_breaks a b c w.read [] breaks.front false (ran_read a b w.read w.does) (breaks_does b c (program_text p) none breaks) in
+      record {
+        read = w.read;
+        few = omega (arith, w.few);
+        outcomes = record { commands = []; unopened = None; input_failed = false; stopped = None };
+        verdict = Accepted p;
+        judged = accepted_part p a b w None;
+        text = breaks.front;
+        faults = ran.faults;
+        input = ran.input;
+        output = ran.output;
+        does = ran.does;
+        ends = tt;
+        tells = λ start h. (breaks.rest, ap (λ x. checked_text (Accepted p) (part_of w.read false) ++ last_line x) (check_end w.read w.part p w.is_part) ∙ append-nil _ ∙ check_text start w.read w.part p w.is_part ∙ breaks.whole);
+        files = λ start h. tt;
+        lines = [];
+        fared = refl;
+        unanswered = [];
+        whole = omega arith;
+        answered = λ h. refl;
+        calm = b;
+        course = reads refl refl refl refl w.does;
+        halted = b;
+        halts = refl;
+        last = program_text p;
+        closes = breaks;
+        only = tt;
+        far = inl (omega arith);
+      }
 
 -- the canonical text of a program part is said, or breaks off
-pub checked : (a b c : Seen) (r : Reader) (text : Clipped) (d : Bool) (p : Program) → PartIs r text d a b → Decides job.Check text.items (Accepted p) → Does b c [] (program_text p) none → Runs job.Check a c status.Done
-checked a b c r text true p s h says = said_all a b c _ _ p (divided_short a b r text s) (is_divided_part a b r text s) (kept_verdict job.Check (Accepted p) text (flat_map ended s.front) s.keeps h) s.does (inl (has_separator a b r text s)) says
-checked a b c r text false p s h says = said_all a b c _ _ p s.few s.is_part (kept_verdict job.Check (Accepted p) text s.part s.keeps h) s.does (inr s.end) says
+pub checked : (a b c : Seen) (p : Program) → IsWhole a b (Accepted p) → Does b c [] (program_text p) none → Runs job.Check a c status.Done
+checked a b c p w says = said_all a b c p w says
 
-pub check_broke : (a b c : Seen) (r : Reader) (text : Clipped) (d : Bool) (p : Program) → PartIs r text d a b → Decides job.Check text.items (Accepted p) → Breaks b c (program_text p) none → Runs job.Check a c status.Output
-check_broke a b c r text true p s h breaks = said_front a b c _ _ p (divided_short a b r text s) (is_divided_part a b r text s) (kept_verdict job.Check (Accepted p) text (flat_map ended s.front) s.keeps h) s.does breaks
-check_broke a b c r text false p s h breaks = said_front a b c _ _ p s.few s.is_part (kept_verdict job.Check (Accepted p) text s.part s.keeps h) s.does breaks
+pub check_broke : (a b c : Seen) (p : Program) → IsWhole a b (Accepted p) → Breaks b c (program_text p) none → Runs job.Check a c status.Output
+check_broke a b c p w breaks = said_front a b c p w breaks
+
+-- a program part is refused, or memory runs out for saying so
+pub refused_finish : (j : Job) (a b c : Seen) (r : Reader) (text : Clipped) (d : Bool) (x : Status) → PartIs r text d a b → (why : Refusal) → Decides text.items (Rejected why) → Finishes b c (last_line (RefusedProgram why)) status.Program x ⊎ Finishes b c (last_line NoMemory) status.Memory x → Runs j a c x
+refused_finish j a b c r text d x p why h (inl f) = near_finish j a b c (RefusedProgram why) (near_refused j a b why (part_whole a b r text d (Rejected why) p h)) x (λ q. absurd (cc)) f
+refused_finish j a b c r text d x p why h (inr f) = near_finish j a b c NoMemory (near_part_is j a b r text d p) x (λ q. absurd (cc)) f
 
 -- what is ahead was taken
 pub part_ahead : (a b : Seen) (r : Reader) (text : Clipped) (d : Bool) → PartIs r text d a b → (r.taken ≤ limit) × (length r.chunk ≤ r.taken)

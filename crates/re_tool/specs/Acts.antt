@@ -1,55 +1,106 @@
--- The order of a session's steps, line by line.
-use Rattle.std.specs.Prelude.{ℕ, ◌≡◌, ◌++◌, List, [], ◌∷◌, length, Option, Some, None}
-use Rattle.re_outside.specs.Outside.{Seen, Does, none}
+-- The order of a run's steps: the program part is read, the devices are opened, and then line by line.
+-- Read against: over blank files `device a; var x: int = 0;` with turn a x = 5 makes two syncs, lays the start, commits the turn, and then says ok 1.
+use Rattle.std.specs.Prelude.{ℕ, ◌≡◌, ◌<◌, ◌++◌, List, [], ◌∷◌, true, map, Option, Some, None, Result, Ok, Err, ⊤}
+use Rattle.re_compact.specs.declared.fault.OpenFault.{OpenFault}
+use Rattle.re_compact.specs.declared.fault.OpenFault.TheVariants as open
+use Rattle.re_device.specs.Device.{DeviceState}
+use Rattle.re_outside.specs.Moment.{Throughout}
+use Rattle.re_outside.specs.Outside.{Does, Rose, Seen, content_in, none}
+use Rattle.re_outside.specs.Port.{disk_faults, past_in}
+use Rattle.re_outside.specs.Trace.{IsJointImage}
+use Rattle.re_record.specs.Stores as stores
+use Rattle.re_record.specs.Stores.{HasStore}
+use Rattle.re_session.specs.Acts.{Acts, DoneLine}
+use Rattle.re_session.specs.Begins.{Begins}
+use Rattle.re_session.specs.Serving.{DoesLine, Goes}
+use Rattle.re_terms.specs.Admission.{device_count}
+use Rattle.re_terms.specs.DeviceWorlds.{World}
 use Rattle.re_terms.specs.declared.program.Program.{Program}
-use Rattle.re_terms.specs.DeviceWorlds.{World, Outcome}
-use Rattle.re_commands.specs.Commanding.{commanded}
-use Rattle.re_tool.specs.Answers.{Session, first, others, line_text, line_after}
+use Rattle.re_tool.specs.Answers.{Session}
+use Rattle.re_tool.specs.Verdict.{Accepted, Verdict}
+use Rattle.re_tool.specs.declared.words.Job.{Job}
+use Rattle.re_tool.specs.declared.words.Job.TheVariants as job
+use Rattle.re_world.specs.Images.{Restores}
+use Rattle.re_world.specs.Opening.{HasAllOpeningSteps, IsOpened, OpenBefore}
+use Rattle.re_world.specs.Standing.{IsWorldOf}
+use Rattle.re_world.specs.State.{WorldState, device_in}
 
--- A line is done between two moments: it is read, then its command's own steps are made, and behind them its answer is said whole.
-pub record Act (old new : Seen) (answer : List ℕ) : Type 0 where
-  -- the bytes that were taken for it
-  pub read : List ℕ
-  pub begun : Seen
-  pub reads : Does old begun read [] none
-  -- what the command did before it was answered
-  pub done : Seen
-  pub own : Does begun done [] [] none
-  pub says : Does done new [] answer none
+-- ---- opening
 
--- There is a moment up to which P holds, and Q from there on.
-pub record Through (P Q : Seen → Type 0) : Type 0 where
-  pub mid : Seen
-  pub here : P mid
-  pub there : Q mid
+-- why the first device that doesn't open is refused: for what its files read as, or since its disk failed
+abbrev pub IsWhy : Program → ℕ → OpenFault → Seen → Seen → Type 0
+IsWhy p d open.Memory old new = Unit {0}
+IsWhy p d open.Disk old new = Rose (disk_faults d old) (disk_faults d new)
+IsWhy p d (open.BadStore file at) old new = HasStore p d (content_in old d 0) (content_in old d 1) (stores.Bad file at)
+IsWhy p d open.OtherProgram old new = HasStore p d (content_in old d 0) (content_in old d 1) stores.OtherProgram
 
--- these lines are done one behind the other, from one moment to another
-abbrev pub Acts : Program → World → List (List ℕ) → List Outcome → Seen → Seen → Type 0
-Acts p w [] os old new = new ≡ old
-Acts p w (l ∷ lines) os old new = Through
-    (λ mid. Act old mid (line_text p w (commanded p l) (first os)))
-    (λ mid. Acts p (line_after p w (commanded p l) (first os)) lines (others os) mid new)
+-- all devices open, or all before the first that doesn't
+abbrev pub FindsUnopened : Program → Option (ℕ × OpenFault) → Seen → Seen → Type 0
+FindsUnopened p None old new = OpenBefore p (device_count p.decls.items) old
+FindsUnopened p (Some (d, fault)) old new = OpenBefore p d old × IsWhy p d fault old new
 
--- The lines are done, and no more is read or said behind them than the reading of what comes next, and the own steps of a line that has no whole answer.
-pub record Ordered (old new : Seen) (p : Program) (start : World) (lines : List (List ℕ)) (os : List Outcome) (unanswered : List (List ℕ)) : Type 0 where
-  pub answered : List (List ℕ)
+-- the same as a result
+abbrev pub opening_result : Option (ℕ × OpenFault) → Result ⊤ (ℕ × OpenFault)
+opening_result None = Ok tt
+opening_result (Some u) = Err u
+
+-- no call failed, unless the disk of this device is why it doesn't open
+abbrev pub FailsNone : Option (ℕ × OpenFault) → Seen → Seen → Type 0
+FailsNone (Some (d, open.Disk)) old new = Rose (disk_faults d old) (disk_faults d new)
+FailsNone u old new = new.faults ≡ old.faults
+
+-- The devices are opened in order, up to the first that doesn't open, and nothing is said.
+pub record IsOpening (p : Program) (unopened : Option (ℕ × OpenFault)) (old new : Seen) : Type 0 where
+  pub finds : old.told ≡ true → FindsUnopened p unopened old new
+  pub steps : old.told ≡ true → HasAllOpeningSteps p (past_in 0 old) (past_in 0 new) (opening_result unopened)
+  pub failed : FailsNone unopened old new
+  -- a stop at any moment leaves files that stand for the world at the start
+  pub restores : (w : World) → Begins p w old → Throughout (past_in 0 old) (past_in 0 new) (λ now. (files : ℕ → ℕ → List ℕ) → IsJointImage now files → Restores p w None files)
+  pub goes : Goes old new [] []
+
+-- The devices are opened, and this is what is in memory then: the world that the files stand for, where they stand for one.
+pub record OpensAs (p : Program) (devices : WorldState) (old new : Seen) : Type 0 where
+  pub opening : IsOpening p None old new
+  pub program : devices.program ≡ p
+  pub packets : devices.packets ≡ []
+  pub opened : (d : ℕ) → d < device_count p.decls.items → (x : DeviceState) × (device_in devices d ≡ Some x) × IsOpened p d x
+  pub stands : (w : World) → Begins p w old → IsWorldOf p w devices new
+
+-- ---- a session
+
+-- the line that has no whole answer, if there is one, is done as well
+abbrev pub DoesLast : Program → List DoneLine → WorldState → WorldState → Seen → Seen → Type 0
+DoesLast p [] before after old new = (after ≡ before) × (new ≡ old)
+DoesLast p (l ∷ []) before after old new = DoesLine p l.line before after l.answer l.outcome old new
+DoesLast p (l ∷ m ∷ lines) before after old new = ⊥
+
+-- The program part is read, the devices are opened, and the lines are done one behind the other; no more is read behind them than what comes next, and nothing is done but by a line that has no whole answer.
+pub record Ordered (old new : Seen) (p : Program) (lines unanswered : List DoneLine) (last : WorldState) : Type 0 where
+  pub answered : List DoneLine
   pub these : lines ≡ answered ++ unanswered
-  -- each of the answered lines has its outcome, and so has the other one
-  pub theirs : List Outcome
-  pub its : List Outcome
-  pub fared : os ≡ theirs ++ its
-  pub same : length theirs ≡ length answered
-  pub one : length its ≡ length unanswered
-  -- the moment behind the last whole answer
+  -- the program part
+  pub part : List ℕ
+  pub part_read : Seen
+  pub reads_part : Does old part_read part [] none
+  -- the devices
+  pub devices : WorldState
+  pub opened : Seen
+  pub opens : OpensAs p devices part_read opened
+  -- the lines that have their answers
+  pub before : WorldState
   pub mid : Seen
-  pub acts : Acts p start answered theirs old mid
-  -- what was taken behind it
+  pub acts : Acts p answered devices before opened mid
+  -- what was taken behind them
   pub ahead : List ℕ
   pub begun : Seen
   pub reads : Does mid begun ahead [] none
-  pub own : Does begun new [] [] none
+  pub own : DoesLast p unanswered before last begun new
 
--- the same of the session that was done, where there is one; else nothing is said
-abbrev pub OrderedIn : Seen → Seen → (Program → World) → Option Session → List Outcome → List (List ℕ) → Type 0
-OrderedIn old new start None os unanswered = (os ≡ []) × (unanswered ≡ []) × ((read : List ℕ) × Does old new read [] none)
-OrderedIn old new start (Some s) os unanswered = Ordered old new s.program (start s.program) s.lines os unanswered
+-- Between two moments a run comes so far.
+pub data Course (j : Job) (v : Verdict) (unopened : Option (ℕ × OpenFault)) (session : Option Session) (lines unanswered : List DoneLine) (old new : Seen) : Type 0 where
+  -- some of the input is read, and no device is opened
+  reads : {read : List ℕ} → session ≡ None → unopened ≡ None → lines ≡ [] → unanswered ≡ [] → Does old new read [] none → Course j v unopened session lines unanswered old new
+  -- behind the program part a device doesn't open
+  opens_none : {p : Program} {u : ℕ × OpenFault} {read : List ℕ} {part_read : Seen} → j ≡ job.Run → v ≡ Accepted p → unopened ≡ Some u → session ≡ None → lines ≡ [] → unanswered ≡ [] → Does old part_read read [] none → IsOpening p (Some u) part_read new → Course j v unopened session lines unanswered old new
+  -- the devices are opened, and the session's lines are done
+  serves : {s : Session} {last : WorldState} → j ≡ job.Run → v ≡ Accepted s.program → unopened ≡ None → session ≡ Some s → s.lines ≡ map (λ (l : DoneLine). l.line) lines → Ordered old new s.program lines unanswered last → Course j v unopened session lines unanswered old new

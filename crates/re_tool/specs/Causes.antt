@@ -1,7 +1,12 @@
 -- When each status comes, in what is seen outside.
 use Rattle.std.specs.Prelude.{ℕ, ◌≡◌, ◌<◌, ◌≤◌, ◌+◌, ◌++◌, ◌⊎◌, length, take, List, Bool, true, false, Some}
 use Rattle.std.specs.List.{flat_map}
-use Rattle.re_outside.specs.Outside.{Seen, FaultKind, Input, Output, Counts, IsAtEnd}
+use Rattle.re_outside.specs.Outside.{Seen, FaultKind, Input, Output, Counts, IsAtEnd, Rose, content_in}
+use Rattle.re_outside.specs.Port.{disk_faults}
+use Rattle.re_record.specs.Stores as stores
+use Rattle.re_record.specs.Stores.{HasStore, Stored}
+use Rattle.re_terms.specs.declared.program.Program.{Program}
+use Rattle.re_world.specs.Opening.{OpenBefore}
 use Rattle.re_tool.specs.declared.words.Job.{Job}
 use Rattle.re_tool.specs.declared.words.Job.TheVariants as job
 use Rattle.re_tool.specs.declared.faults.Refusal.{Refusal}
@@ -11,7 +16,7 @@ use Rattle.re_tool.specs.Lines.{split, ended}
 use Rattle.re_tool.specs.Part.{Part, divided, part_of}
 use Rattle.re_tool.specs.Reads.{limit}
 use Rattle.re_tool.specs.Session.{HasSeparator, is_output, one_if}
-use Rattle.re_tool.specs.Verdict.{HasVerdict, Rejected}
+use Rattle.re_tool.specs.Verdict.{Accepted, HasVerdict, Rejected}
 
 -- it is this status, or want of memory or of output came in its place
 abbrev pub IsUnlessEnded : Status → Status → Type 0
@@ -50,33 +55,57 @@ pub record TooLongCause (old new : Seen) (s : Status) : Type 0 where
   pub always : old.told ≡ true → TooMuch old new → IsUnlessEnded status.TooLong s
 
 -- The program part was read whole, and is refused.
-pub record IsRefusedPart (j : Job) (old new : Seen) : Type 0 where
+pub record IsRefusedPart (old new : Seen) : Type 0 where
   pub read : List ℕ
   pub left : old.left ≡ read ++ new.left
   pub part : Part
   pub is_cut : Bool
   pub is_part : part_of read is_cut ≡ Some part
   pub why : Refusal
-  pub refused : HasVerdict j part.text (Rejected why)
+  pub refused : HasVerdict part.text (Rejected why)
   pub far : HasSeparator read ⊎ IsAtEnd new
 
 -- Status 3 comes exactly where the program part is refused.
-pub record ProgramCause (j : Job) (old new : Seen) (s : Status) : Type 0 where
-  pub only : old.told ≡ true → s ≡ status.Program → IsRefusedPart j old new
+pub record ProgramCause (old new : Seen) (s : Status) : Type 0 where
+  pub only : old.told ≡ true → s ≡ status.Program → IsRefusedPart old new
   -- where the separator was read and the lines before it are refused
-  pub always : (read : List ℕ) (why : Refusal) (front back : List (List ℕ)) → old.told ≡ true → old.left ≡ read ++ new.left → divided (split (take limit read)).0 ≡ Some (front, back) → HasVerdict j (flat_map ended front) (Rejected why)
+  pub always : (read : List ℕ) (why : Refusal) (front back : List (List ℕ)) → old.told ≡ true → old.left ≡ read ++ new.left → divided (split (take limit read)).0 ≡ Some (front, back) → HasVerdict (flat_map ended front) (Rejected why)
       → IsUnlessEnded status.Program s
   -- where the input was the program part and is refused; a failed `take` may come first
-  pub at_end : (read : List ℕ) (why : Refusal) (part : Part) → old.told ≡ true → old.left ≡ read ++ new.left → length read ≤ limit → part_of read false ≡ Some part → HasVerdict j part.text (Rejected why)
+  pub at_end : (read : List ℕ) (why : Refusal) (part : Part) → old.told ≡ true → old.left ≡ read ++ new.left → length read ≤ limit → part_of read false ≡ Some part → HasVerdict part.text (Rejected why)
       → IsUnlessEnded status.Program s ⊎ (s ≡ status.Input)
 
--- No count of faults rose, no byte too many came, and the program part, if it was read whole, isn't refused.
-pub record IsUntroubled (j : Job) (old new : Seen) : Type 0 where
+-- The program part was read whole, and is accepted as this program.
+pub record IsAcceptedPart (old new : Seen) (p : Program) : Type 0 where
+  pub read : List ℕ
+  pub left : old.left ≡ read ++ new.left
+  pub part : Part
+  pub is_cut : Bool
+  pub is_part : part_of read is_cut ≡ Some part
+  pub accepted : HasVerdict part.text (Accepted p)
+  pub far : HasSeparator read ⊎ IsAtEnd new
+
+-- Of an accepted program the files of this device read as this, and each device before it opens.
+pub record FindsStore (old new : Seen) (p : Program) (d : ℕ) (stored : Stored) : Type 0 where
+  pub accepted : IsAcceptedPart old new p
+  pub before : OpenBefore p d old
+  pub store : HasStore p d (content_in old d 0) (content_in old d 1) stored
+
+-- Statuses 4 and 5 come only where the first device that doesn't open has such files, and 6 only where the count of a device's disk rose.
+pub record OpeningCause (old new : Seen) (s : Status) : Type 0 where
+  pub bad : old.told ≡ true → s ≡ status.Store → (p : Program) × (d : ℕ) × (file : ℕ) × (at : ℕ) × FindsStore old new p d (stores.Bad file at)
+  pub other : old.told ≡ true → s ≡ status.OtherProgram → (p : Program) × (d : ℕ) × FindsStore old new p d stores.OtherProgram
+  pub disk : s ≡ status.Disk → (d : ℕ) × Rose (disk_faults d old) (disk_faults d new)
+
+-- No count of faults rose, no byte too many came, the program part, if it was read whole, isn't refused, and no store is bad or another program's.
+pub record IsUntroubled (old new : Seen) : Type 0 where
   pub told : old.told ≡ true
   pub quiet : (kind : FaultKind) → Counts 1 (old.faults kind) (new.faults kind) → ⊥
   pub few : TooMuch old new → ⊥
-  pub accepted : IsRefusedPart j old new → ⊥
+  pub accepted : IsRefusedPart old new → ⊥
+  pub stores : (p : Program) (d file at : ℕ) → FindsStore old new p d (stores.Bad file at) → ⊥
+  pub own : (p : Program) (d : ℕ) → FindsStore old new p d stores.OtherProgram → ⊥
 
 -- Such a run ends with status 0, or with 9 for want of memory.
-abbrev pub Completes : Job → Seen → Seen → Status → Type 0
-Completes j old new s = IsUntroubled j old new → (s ≡ status.Done) ⊎ (s ≡ status.Memory)
+abbrev pub Completes : Seen → Seen → Status → Type 0
+Completes old new s = IsUntroubled old new → (s ≡ status.Done) ⊎ (s ≡ status.Memory)

@@ -1,14 +1,12 @@
 pub mod Acts
 pub mod Answers
-pub mod Built
 pub mod Causes
 pub mod Clipped
-pub mod Device
 pub mod Endings
 pub mod Failures
 pub mod Faults
-pub mod Histories
 pub mod Lines
+pub mod Names
 pub mod Opening
 pub mod Part
 pub mod PartReading

@@ -20,4 +20,3 @@ refusal_words (refusal.Twice place) = declaration_text place (codes ": declared 
 refusal_words (refusal.Unknown place) = declaration_text place (codes ": unknown name")
 refusal_words (refusal.Kind place) = declaration_text place (codes ": wrong kind")
 refusal_words refusal.NoDevice = codes "no device"
-refusal_words refusal.NotBuilt = codes "not built"

@@ -1,42 +1,58 @@
 -- What a whole run does.
-use Rattle.std.specs.Prelude.{ℕ, ◌≡◌, ◌≤◌, ◌+◌, ◌++◌, ◌⊎◌, length, List, [], Bool, true, false, Option, Some, None, IsSome}
-use Rattle.std.specs.List.{All}
-use Rattle.re_outside.specs.Outside.{Seen, Input, Output, Disk, Does, Fails, Breaks, IsAtEnd, Faults, none, input_fault}
+use Rattle.std.specs.Prelude.{ℕ, ◌≡◌, ◌≤◌, ◌<◌, ◌+◌, ◌++◌, ◌⊎◌, length, List, [], Bool, true, false, map, Option, Some, None, IsSome}
+use Rattle.re_outside.specs.Outside.{Breaks, Does, DoesWith, Fails, Faults, Input, IsAtEnd, Output, Seen, content_in, input_fault, none}
 use Rattle.re_outside.specs.declared.step.Call.TheVariants as call
-use Rattle.re_terms.specs.DeviceWorlds.{blank_world}
-use Rattle.re_tool.specs.declared.words.Job.{Job}
-use Rattle.re_tool.specs.declared.words.Job.TheVariants as job
-use Rattle.re_tool.specs.declared.status.Status.{Status}
-use Rattle.re_tool.specs.declared.status.Status.TheVariants as status
-use Rattle.re_tool.specs.Acts.{OrderedIn}
+use Rattle.re_outside.specs.declared.step.Step.{Step}
+use Rattle.re_session.specs.Acts.{DoneLine}
+use Rattle.re_session.specs.Begins.{Begins}
+use Rattle.re_session.specs.LineAnswers.{lines_after}
+use Rattle.re_terms.specs.Admission.{device_count}
+use Rattle.re_terms.specs.DeviceWorlds.{Outcome, World, recovered}
+use Rattle.re_terms.specs.declared.program.Program.{Program}
+use Rattle.re_tool.specs.Acts.{Course}
+use Rattle.re_tool.specs.Answers.{Outcomes, Session, answers, done, ending}
+use Rattle.re_tool.specs.Endings.{BadWords, Ending, InputFault, NoMemory, last_line, status_at}
 use Rattle.re_tool.specs.Lines.{split}
 use Rattle.re_tool.specs.Part.{Part, divided, part_of}
 use Rattle.re_tool.specs.Reads.{limit}
-use Rattle.re_tool.specs.Answers.{Outcomes, IsFineOrMemory, Session, answers, done}
-use Rattle.re_tool.specs.Endings.{Ending, BadWords, InputFault, NoMemory, status_at, last_line}
-use Rattle.re_tool.specs.Verdict.{Verdict, IsJudged}
+use Rattle.re_tool.specs.Verdict.{Accepted, IsJudged, Verdict}
+use Rattle.re_tool.specs.declared.status.Status.{Status}
+use Rattle.re_tool.specs.declared.status.Status.TheVariants as status
+use Rattle.re_tool.specs.declared.words.Job.{Job}
+use Rattle.re_tool.specs.declared.words.Job.TheVariants as job
+use Rattle.re_world.specs.Images.{OpensAfter}
 
 abbrev pub is_output : Status → Bool
 is_output status.Output = true
 is_output s = false
 
--- All of the answers are said and the status is theirs, or a front of them where a `say` failed.
-abbrev pub Tells : List ℕ × Ending → List ℕ → Status → Type 0
-Tells a text status.Output = (rest : List ℕ) × (a.0 ≡ text ++ rest)
-Tells a text s = (a.0 ≡ text) × (status_at a.1 ≡ s)
+-- All of the answers are said, or a front of them where a `say` failed.
+abbrev pub Tells : List ℕ → List ℕ → Status → Type 0
+Tells answers text status.Output = (rest : List ℕ) × (answers ≡ text ++ rest)
+Tells answers text s = answers ≡ text
+
+-- the status is that of the ending, but where a `say` failed
+abbrev pub EndsAs : Ending → Status → Type 0
+EndsAs e status.Output = Unit {0}
+EndsAs e s = status_at e ≡ s
+
+-- the worlds in which a run may begin: those that the files stand for, where there is a session
+abbrev pub MayBegin : (Program → World) → Option Session → Seen → Type 0
+MayBegin start None old = Unit {0}
+MayBegin start (Some s) old = Begins s.program (start s.program) old
+
+-- as they read the files of each device open to its settled entries, with those in doubt behind them that they hold
+abbrev pub FilesOpen : (Program → World) → Option Session → List Outcome → Seen → Type 0
+FilesOpen start None os new = Unit {0}
+FilesOpen start (Some s) os new = let w = lines_after s.program (start s.program) s.lines os in
+    (d : ℕ) → d < device_count s.program.decls.items → OpensAfter s.program w d (content_in new d 0) (content_in new d 1) (w.settled d ++ recovered w d)
 
 abbrev pub one_if : Bool → ℕ
 one_if true = 1
 one_if false = 0
 
--- a call that takes failed or not, a call that says failed or not, and none on a file
-abbrev pub faults_of : Bool → Bool → Faults
-faults_of input output Input = one_if input
-faults_of input output Output = one_if output
-faults_of input output (Disk device) = 0
-
 -- at the end for want of memory or of output at most one line, the last, has no whole answer
-abbrev pub Unanswered : Status → List (List ℕ) → Type 0
+abbrev pub Unanswered : Status → List DoneLine → Type 0
 Unanswered status.Output lines = length lines ≤ 1
 Unanswered status.Memory lines = length lines ≤ 1
 Unanswered s lines = lines ≡ []
@@ -66,11 +82,14 @@ abbrev pub ReadsWhole : Job → List ℕ → Seen → Type 0
 ReadsWhole job.Run read new = IsAtEnd new
 ReadsWhole job.Check read new = ReadsPart read new
 
--- how far the input was read: as the job says where the status is 0, to the separator or the end where it is 3,
+-- how far the input was read: as the job says where the status is 0, to the separator or the end where it is 3 to 6,
 -- and past each line that was done
 abbrev pub ReadFar : Job → Status → Verdict → List ℕ → Outcomes → Seen → Type 0
 ReadFar j status.Done v read o new = ReadsWhole j read new
 ReadFar j status.Program v read o new = ReadsPart read new
+ReadFar j status.Store v read o new = ReadsPart read new
+ReadFar j status.OtherProgram v read o new = ReadsPart read new
+ReadFar j status.Disk v read o new = ReadsPart read new
 ReadFar j status.Memory v read o new = AreComplete j v read o ⊎ IsAtEnd new
 ReadFar j status.Output v read o new = AreComplete j v read o ⊎ IsAtEnd new
 ReadFar j s v read o new = Unit {0}
@@ -90,28 +109,34 @@ abbrev pub OnlyLastLine : Bool → List ℕ → Status → Type 0
 OnlyLastLine false last s = Unit {0}
 OnlyLastLine true last s = (last ≡ last_line InputFault) × ((s ≡ status.Input) ⊎ (s ≡ status.Output))
 
+-- A job has run over an outside, from one moment to another.
 pub record Runs (j : Job) (old new : Seen) (s : Status) : Type 0 where
   -- the bytes that were taken, at most one over the limit
   pub read : List ℕ
   pub few : length read ≤ limit + 1
   pub outcomes : Outcomes
-  -- so far nothing but want of memory hinders a command
-  pub fared : All IsFineOrMemory outcomes.commands
   -- what the program part is
   pub verdict : Verdict
-  pub judged : IsJudged j verdict (part_of read outcomes.input_failed) outcomes.stopped
-  -- the text that was said
+  pub judged : IsJudged verdict (part_of read outcomes.input_failed) outcomes.stopped
+  -- the text that was said, and the calls that failed: one that takes or none, one that says or none, and some on files
   pub text : List ℕ
-  -- the input fault and the output fault are the outcomes', and no others came
-  pub does : Does old new read text (faults_of outcomes.input_failed (is_output s))
-  pub tells : Tells (answers j verdict blank_world read outcomes) text s
+  pub faults : Faults
+  pub input : faults Input ≡ one_if outcomes.input_failed
+  pub output : faults Output ≡ one_if (is_output s)
+  pub does : DoesWith (λ (steps : List Step). Unit {0}) old new read text faults
+  pub ends : EndsAs (ending j verdict read outcomes) s
+  -- the text, and what the files open to then, are those of each world that the files stood for
+  pub tells : (start : Program → World) → MayBegin start (done j verdict read outcomes) old → Tells (answers j verdict start read outcomes) text s
+  pub files : (start : Program → World) → MayBegin start (done j verdict read outcomes) old → FilesOpen start (done j verdict read outcomes) outcomes.commands new
   -- the answers stand whole and in order behind their commands' steps, all but perhaps the last
-  pub unanswered : List (List ℕ)
+  pub lines : List DoneLine
+  pub fared : outcomes.commands ≡ map (λ (l : DoneLine). l.outcome) lines
+  pub unanswered : List DoneLine
   pub whole : Unanswered s unanswered
   -- and all of them where a `take` failed
   pub answered : outcomes.input_failed ≡ true → unanswered ≡ []
   pub calm : Seen
-  pub ordered : OrderedIn old calm blank_world (done j verdict read outcomes) outcomes.commands unanswered
+  pub course : Course j verdict outcomes.unopened (done j verdict read outcomes) lines unanswered old calm
   -- behind them a `take` may have failed, and then the rest of the text is said
   pub halted : Seen
   pub halts : Halts outcomes.input_failed calm halted

@@ -1,6 +1,6 @@
 -- What a program part is: a program that is accepted, or a text that is refused.
 -- Read against: `device a; var x: int = 1 $` is refused with `no token at 25`, `device a var` with `unexpected token at 9`, `device a; signal s = t;` with
--- `declaration 2: unknown name`, and the empty text with `no device`; `device a; event e: int;` is accepted, and refused by `run` with `not built`.
+-- `declaration 2: unknown name`, and the empty text with `no device`; `device a; event e: int;` is accepted.
 use Rattle.std.specs.Prelude.{ℕ, ◌<◌, ◌≤◌, ◌≡◌, ◌⊎◌, List, length, nat_lt, Bool, true, false, Option, Some, None, Result, Ok, Err, if◌then◌else◌}
 use Rattle.re_terms.specs.declared.token.Token.{Token}
 use Rattle.re_terms.specs.declared.raw.Tree.{Tree}
@@ -13,11 +13,8 @@ use Rattle.re_types.specs.declared.fault.TypeFault.{TypeFault}
 use Rattle.re_types.specs.declared.fault.TypeFault.TheVariants as fault
 use Rattle.re_types.specs.Resolving.{resolved}
 use Rattle.re_print.specs.Canonical.{program_text}
-use Rattle.re_tool.specs.declared.words.Job.{Job}
-use Rattle.re_tool.specs.declared.words.Job.TheVariants as job
 use Rattle.re_tool.specs.declared.faults.Refusal.{Refusal}
 use Rattle.re_tool.specs.declared.faults.Refusal.TheVariants as refusal
-use Rattle.re_tool.specs.Built.{is_built}
 use Rattle.re_tool.specs.Part.{Part}
 
 pub data Verdict : Type 0 where
@@ -52,7 +49,7 @@ pub record HasTree (text : List ℕ) (tree : Tree) : Type 0 where
   pub derives : Derives open_limit (marks_of tokens) tree.decls.items
   pub limits : IsTree tree
 
--- what a program part is, whether or not it can be run so far: its length is looked at first, then its tokens, its syntax,
+-- what a program part is: its length is looked at first, then its tokens, its syntax,
 -- its names and kinds, and the length of its canonical text
 pub data Judges (text : List ℕ) (v : Verdict) : Type 0 where
   too_long : text_limit < length text → v ≡ Rejected refusal.TooLong → Judges text v
@@ -61,27 +58,18 @@ pub data Judges (text : List ℕ) (v : Verdict) : Type 0 where
   too_deep : {tokens : List Token} {place : ℕ} → HasTokens text tokens → IsTooDeep tokens place → v ≡ Rejected (refusal.TooDeep place) → Judges text v
   whole : {tree : Tree} → HasTree text tree → v ≡ verdict_of (resolved tree) → Judges text v
 
--- a program that can't be run so far
-pub record IsNotBuilt (text : List ℕ) (why : Refusal) : Type 0 where
-  pub program : Program
-  pub accepted : Judges text (Accepted program)
-  pub unbuilt : is_built program ≡ false
-  pub is : why ≡ refusal.NotBuilt
+-- a program part has this verdict
+abbrev pub HasVerdict : List ℕ → Verdict → Type 0
+HasVerdict text Unknown = ⊥
+HasVerdict text (Rejected why) = Judges text (Rejected why)
+HasVerdict text (Accepted p) = Judges text (Accepted p)
 
--- for this job a program part has this verdict: `run` accepts what can be run so far
-abbrev pub HasVerdict : Job → List ℕ → Verdict → Type 0
-HasVerdict j text Unknown = ⊥
-HasVerdict job.Check text (Rejected why) = Judges text (Rejected why)
-HasVerdict job.Check text (Accepted p) = Judges text (Accepted p)
-HasVerdict job.Run text (Rejected why) = Judges text (Rejected why) ⊎ IsNotBuilt text why
-HasVerdict job.Run text (Accepted p) = Judges text (Accepted p) × (is_built p ≡ true)
-
--- for this job a program part has this verdict, and no other
-pub record Decides (j : Job) (text : List ℕ) (v : Verdict) : Type 0 where
-  pub has : HasVerdict j text v
-  pub only : (w : Verdict) → HasVerdict j text w → w ≡ v
+-- a program part has this verdict, and no other
+pub record Decides (text : List ℕ) (v : Verdict) : Type 0 where
+  pub has : HasVerdict text v
+  pub only : (w : Verdict) → HasVerdict text w → w ≡ v
 
 -- the verdict is that of the program part, where there is one, unless memory ran out before the first line
-abbrev pub IsJudged : Job → Verdict → Option Part → Option (ℕ × Bool) → Type 0
-IsJudged j v None stopped = v ≡ Unknown
-IsJudged j v (Some part) stopped = Decides j part.text v ⊎ ((v ≡ Unknown) × (stopped ≡ Some (0, true)))
+abbrev pub IsJudged : Verdict → Option Part → Option (ℕ × Bool) → Type 0
+IsJudged v None stopped = v ≡ Unknown
+IsJudged v (Some part) stopped = Decides part.text v ⊎ ((v ≡ Unknown) × (stopped ≡ Some (0, true)))

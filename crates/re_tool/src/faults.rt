@@ -22,8 +22,6 @@ pub enum Refusal {
     Unknown(u32),
     Kind(u32),
     NoDevice,
-    /// It is a program that can't be run so far.
-    NotBuilt,
 }
 
 /// Why no program was read.
@@ -125,6 +123,5 @@ pub fn refusal_text(alloc: Global, why: Refusal) -> Result<Vec<u8>, AllocError>
         Refusal::Unknown(place) => declaration_text(alloc, place, b": unknown name"),
         Refusal::Kind(place) => declaration_text(alloc, place, b": wrong kind"),
         Refusal::NoDevice => b"no device".to_vec(alloc),
-        Refusal::NotBuilt => b"not built".to_vec(alloc),
     }
 }

@@ -1,20 +1,17 @@
 //! The top call: the words of a command line and a stream of bytes come in, answers go out.
 #![tactic(auto)]
 
-mod built;
 mod chunk;
 mod faults;
 pub mod laws;
-#[cfg(test)]
-mod library;
 mod line;
+mod names;
+mod opening;
 mod part;
 mod reader;
 mod reading;
 mod running;
 mod status;
-#[cfg(test)]
-mod tests;
 mod top;
 mod words;
 

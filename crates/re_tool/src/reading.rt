@@ -1,12 +1,10 @@
 //! Reads programs.
-ghost use Rattle.std.specs.Prelude.{◌≡◌, true, length, nat_lt, IfOk, Err};
+ghost use Rattle.std.specs.Prelude.{◌≡◌, ◌≤◌, length, nat_lt, IfOk, Err};
 ghost use Rattle.re_print.specs.Canonical.{program_text};
 ghost use Rattle.re_terms.specs.Programs.{IsProgram};
-ghost use Rattle.re_tool.specs.Verdict.{text_limit, Decides, Judges, Rejected, Accepted};
+ghost use Rattle.re_tool.specs.Verdict.{text_limit, Decides, Rejected, Accepted};
 
-use crate::built::is_built;
 use crate::faults::{ProgramFault, Refusal};
-use crate::words::Job;
 use re_print::print_program;
 use re_syntax::parse;
 use re_terms::Program;
@@ -24,11 +22,14 @@ fn is_long(alloc: Global, program: &Program) -> Result<bool, AllocError>
     Ok(print_program(alloc, program)?.len() > MAX_TEXT)
 }
 
-/// Reads a program part, whether or not it can be run so far.
-fn judge(alloc: Global, text: &[u8]) -> Result<Program, ProgramFault>
-    ensures accepted { IfOk result (λ p. Judges text.now (Accepted p)) }
-    ensures refused { (why : Refusal) → result ≡ Err (ProgramFault.Refused why) → Judges text.now (Rejected why) }
+/// Reads a program part.
+///
+/// A refusal is that of `docs/LANGUAGE.md`, the first in the order that stands there. The other one is want of memory.
+pub fn read_program(alloc: Global, text: &[u8]) -> Result<Program, ProgramFault>
+    ensures accepted { IfOk result (λ p. Decides text.now (Accepted p)) }
+    ensures refused { (why : Refusal) → result ≡ Err (ProgramFault.Refused why) → Decides text.now (Rejected why) }
     ensures program { IfOk result IsProgram }
+    ensures short { IfOk result (λ p. length (program_text p) ≤ text_limit) }
 {
     if text.len() > MAX_TEXT {
         return Err(ProgramFault::Refused(Refusal::TooLong));
@@ -40,20 +41,4 @@ fn judge(alloc: Global, text: &[u8]) -> Result<Program, ProgramFault>
         return Err(ProgramFault::Refused(Refusal::TooLong));
     }
     Ok(program)
-}
-
-/// Reads a program part for a job: `run` accepts programs that can be run so far.
-///
-/// A refusal is that of `docs/LANGUAGE.md`, the first in the order that stands there. The other one is want of memory.
-pub fn read_program(alloc: Global, job: Job, text: &[u8]) -> Result<Program, ProgramFault>
-    ensures accepted { IfOk result (λ p. Decides job text.now (Accepted p)) }
-    ensures refused { (why : Refusal) → result ≡ Err (ProgramFault.Refused why) → Decides job text.now (Rejected why) }
-    ensures program { IfOk result IsProgram }
-{
-    let program = judge(alloc, text)?;
-    match job {
-        Job::Check => Ok(program),
-        Job::Run if is_built(&program) => Ok(program),
-        Job::Run => Err(ProgramFault::Refused(Refusal::NotBuilt)),
-    }
 }

@@ -1,7 +1,7 @@
 //! The top call.
 ghost use Rattle.std.specs.Prelude.{◌≡◌, Some, None, map};
 ghost use Rattle.std.specs.String.{string_bytes};
-ghost use Rattle.re_tool.specs.Causes.{EndCause, ProgramCause, InputCause, OutputCause, TooLongCause, Completes};
+ghost use Rattle.re_tool.specs.Causes.{Completes, EndCause, InputCause, OpeningCause, OutputCause, ProgramCause, TooLongCause};
 ghost use Rattle.re_tool.specs.Failures.{StopsAtFailures};
 ghost use Rattle.re_tool.specs.Session.{Runs, Refuses};
 ghost use Rattle.re_tool.specs.Words.{job_of};
@@ -30,11 +30,12 @@ pub fn tool<R: Threads + Wait + Sync, O: Outside + Send, G: Gate>(
     ensures refused { job_of (map string_bytes words.now) ≡ None → Refuses (O.Outside.seen out.old) (O.Outside.seen out.new) result }
     ensures words { result ≡ Status.Words → job_of (map string_bytes words.now) ≡ None }
     ensures end { (job : Job) → job_of (map string_bytes words.now) ≡ Some job → EndCause job (O.Outside.seen out.old) (O.Outside.seen out.new) result }
-    ensures program { (job : Job) → job_of (map string_bytes words.now) ≡ Some job → ProgramCause job (O.Outside.seen out.old) (O.Outside.seen out.new) result }
+    ensures program { (job : Job) → job_of (map string_bytes words.now) ≡ Some job → ProgramCause (O.Outside.seen out.old) (O.Outside.seen out.new) result }
+    ensures opening { (job : Job) → job_of (map string_bytes words.now) ≡ Some job → OpeningCause (O.Outside.seen out.old) (O.Outside.seen out.new) result }
     ensures input { InputCause (O.Outside.seen out.old) (O.Outside.seen out.new) result }
     ensures output { OutputCause (O.Outside.seen out.old) (O.Outside.seen out.new) result }
     ensures too_long { TooLongCause (O.Outside.seen out.old) (O.Outside.seen out.new) result }
-    ensures complete { (job : Job) → job_of (map string_bytes words.now) ≡ Some job → Completes job (O.Outside.seen out.old) (O.Outside.seen out.new) result }
+    ensures complete { (job : Job) → job_of (map string_bytes words.now) ≡ Some job → Completes (O.Outside.seen out.old) (O.Outside.seen out.new) result }
     ensures failures { StopsAtFailures (O.Outside.seen out.old) (O.Outside.seen out.new) result }
 {
     match read_words(alloc, words) {

@@ -26,7 +26,7 @@ pub returns-in-Ok-read_program-clause-opened : goal.returns-in-Ok-read_program-c
 returns-in-Ok-read_program-clause-opened g c = record {
   text = _;
   part = c.in-Ok.ensures;
-  verdict = subst (λ t. Decides c.args.job t (Accepted c.in-Ok-read_program.program)) c.bytes.ensures c.in-Ok-read_program.ensures.accepted;
+  verdict = subst (λ t. Decides t (Accepted c.in-Ok-read_program.program)) c.bytes.ensures c.in-Ok-read_program.ensures.accepted;
 }
 
 pub returns-in-Err-Memory-read_program-clause-ended : goal.returns-in-Err-Memory-read_program-clause-ended
@@ -34,4 +34,4 @@ returns-in-Err-Memory-read_program-clause-ended g c = λ s e. ended _ _ _ _ s e 
 
 pub returns-clause-ended : goal.returns-clause-ended
 returns-clause-ended g c = λ s e. ended _ _ _ _ s e
-    (refused_finish _ _ _ _ _ _ _ _ c.in-Ok.ensures c.in-Err-Refused.why (subst (λ t. Decides c.args.job t (Rejected c.in-Err-Refused.why)) c.bytes.ensures (c.read_program.ensures.refused c.in-Err-Refused.why (c.in-Err-Refused.is ∙ ap (λ x. Err x) c.in-Err-Refused.field-0-is))) c.refuse.ensures)
+    (refused_finish _ _ _ _ _ _ _ _ c.in-Ok.ensures c.in-Err-Refused.why (subst (λ t. Decides t (Rejected c.in-Err-Refused.why)) c.bytes.ensures (c.read_program.ensures.refused c.in-Err-Refused.why (c.in-Err-Refused.is ∙ ap (λ x. Err x) c.in-Err-Refused.field-0-is))) c.refuse.ensures)

@@ -1,8 +1,0 @@
-use Rattle.re_terms.proofs.Ordered.{program-ordered, program-regions}
-use Rattle.re_tool.proofs.running.start.Goals as goal
-
-pub build-requires-clause-ordered : goal.build-requires-clause-ordered
-build-requires-clause-ordered c = program-ordered c.args.program c.requires
-
-pub build-requires-clause-regions : goal.build-requires-clause-regions
-build-requires-clause-regions c = program-regions c.args.program c.requires

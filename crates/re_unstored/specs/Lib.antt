@@ -1,4 +1,0 @@
-pub mod Device
-pub mod Sample
-pub mod Keeping
-pub mod Refusals
