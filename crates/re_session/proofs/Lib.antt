@@ -1,3 +1,4 @@
 pub mod Acting
 pub mod Plans
 pub mod Quiet
+pub mod Lasting

@@ -14,7 +14,8 @@ use Rattle.re_session.specs.Acts.{DoneLine, said_by}
 use Rattle.re_session.specs.Begins.{Begins}
 use Rattle.re_session.specs.LineAnswers.{line_after, line_text, lines_after, texts}
 use Rattle.re_session.specs.Serving.{Broken, DoesLine, Goes, Serves, Unsaid, Whole, said_of}
-use Rattle.re_session.proofs.Acting.{after-append, does_goes, goes_on, line_goes, line_world, resting, texts_front, texts_more}
+use Rattle.re_session.proofs.Acting.{after-append, does_goes, goes_on, line_goes, line_world, texts_more}
+use Rattle.re_session.proofs.Lasting.{texts_front, world_on}
 use Rattle.re_commands.specs.Commanding.{commanded}
 use Rattle.re_terms.specs.Entries.{PlainEntry}
 use Rattle.re_terms.specs.DeviceWorlds.{Outcome, World}
@@ -160,7 +161,7 @@ module _ (a b c : Seen) (p : Program) (did : List DoneLine) (l : DoneLine) (now 
         let told : c.told ≡ true = (line_goes p l.line now after l.answer l.outcome b c d).does.moves.told ∙ told_before.told in
         let world : line_after p world_before (commanded p l.line) l.outcome ≡ lines_after p (start p) (lines_in did ++ l.line ∷ []) (outcomes_in (did ++ l ∷ [])) =
         sym (ap (lines_after p (start p) (lines_in did ++ l.line ∷ [])) (outcomes_more did l) ∙ after-append p (start p) (lines_in did) (l.line ∷ []) (outcomes_in did) (l.outcome ∷ []) (fared_lines did)) in
-        files_open p _ after e start (lines_in did ++ l.line ∷ []) (outcomes_in (did ++ l ∷ [])) session is world (resting p _ after c e [] text f told says done_last.1)
+        files_open p _ after e start (lines_in did ++ l.line ∷ []) (outcomes_in (did ++ l ∷ [])) session is world (world_on p _ after c e [] text f told says done_last.1)
 
 module _ (a b c : Seen) (p : Program) (r r' : Reader) (now : WorldState) (line' : Clipped) (most : ℕ) (s : SoFar a b p r now) where
   did_is : (lines : List (List ℕ)) → with_lines p (map without_return s.raws ++ lines) ≡ with_lines p (lines_in s.did ++ lines)
