@@ -11,7 +11,8 @@ use Rattle.re_session.specs.Acts.{DoneLine, said_by}
 use Rattle.re_session.specs.LineAnswers.{lines_after, texts}
 use Rattle.re_session.specs.Begins.{Begins}
 use Rattle.re_session.specs.Serving.{Goes, Serves, Whole, said_of}
-use Rattle.re_session.proofs.Acting.{acts_more, acts_told, acts_world, begins_on, does_goes, goes_on, line_goes, resting}
+use Rattle.re_session.proofs.Acting.{acts_more, acts_world, does_goes, goes_on, line_goes}
+use Rattle.re_session.proofs.Lasting.{acts_told, begins_on, world_on}
 use Rattle.re_terms.specs.DeviceWorlds.{Outcome, World}
 use Rattle.re_terms.specs.declared.program.Program.{Program}
 use Rattle.re_tool.specs.Answers.{Outcomes, Session, answers_text, done, ending, session_in, session_of}
@@ -312,6 +313,6 @@ reached_told a b p did now w r h =
     let mid_told : r.mid.told ≡ true = acts_told p did r.devices now r.opened r.mid r.acts ∙ opened_told in
     record {
       says = acted.0;
-      stands = resting p _ now r.mid b r.ahead [] none mid_told r.reads acted.1;
+      stands = world_on p _ now r.mid b r.ahead [] none mid_told r.reads acted.1;
       told = r.reads.moves.told ∙ mid_told;
     }

@@ -12,6 +12,7 @@ mod reader;
 mod reading;
 mod running;
 mod status;
+
 mod top;
 mod words;
 

@@ -1,26 +1,22 @@
-use Rattle.std.proofs.Common.{◌≡◌, Bool, true, false, not, refl, sym, subst}
-use Rattle.re_unstored.specs.Device.{DeviceState, started}
-use Rattle.re_tool.specs.Serving.{Starts}
-use Rattle.re_tool.proofs.Devices.{started_is_device}
+use Rattle.std.proofs.Common.{subst}
+use Rattle.re_tool.specs.Acts.{IsOpening, OpensAs}
 use Rattle.re_tool.proofs.Endings.{near_finish}
-use Rattle.re_tool.proofs.Starting.{near_part_is, all_done, divided_starts, part_is_divided, part_is_all}
+use Rattle.re_tool.proofs.Starting.{all_done, near_part_is, part_is_all, part_is_divided, part_whole, starts_with, unopened_finish, unopened_output}
 use Rattle.re_tool.proofs.running.run_program.Goals as goal
-
-not_true : (b : Bool) → not b ≡ true → b ≡ false
-not_true true h = absurd (cc)
-not_true false h = refl
-
-not_false : (b : Bool) → not b ≡ false → b ≡ true
-not_false true h = refl
-not_false false h = absurd (cc)
 
 pub returns-in_default : goal.returns-in_default
 returns-in_default g c = λ start text h is. near_finish _ _ _ _ _ (near_part_is _ _ _ _ _ _ h) _ (λ q. absurd (cc)) c.finish.ensures
 
-pub returns-then-not-opened : goal.returns-then-not-opened
-returns-then-not-opened g c = λ start text h is. all_done _ _ _ _ (part_is_all _ _ _ _ _ (not_true _ c.if-not-opened.true) h) _ is
+pub returns-in-Ok-open_devices : goal.returns-in-Ok-open_devices
+returns-in-Ok-open_devices g c = λ start text h is.
+    c.serve.ensures start (starts_with _ _ _ _ _ _ _ _ (part_is_divided _ _ _ _ _ c.if-read.true h) is c.in-Ok.ensures c.in-Ok-open_devices.ensures.opened)
+
+pub returns-in-Ok-2 : goal.returns-in-Ok-2
+returns-in-Ok-2 g c = λ start text h is.
+    all_done _ _ _ _ _ _ _ (part_is_all _ _ _ _ _ c.if-read.false h) is (subst (λ p. OpensAs p c.in-Ok-2.field-0 (g.O.Outside.seen c.args.out.now) (g.O.Outside.seen c.open_devices.new.out)) c.in-Ok.ensures c.in-Ok-2.ensures.opened)
 
 pub returns : goal.returns
 returns g c = λ start text h is.
-    c.serve.ensures start (subst (λ (d : DeviceState). Starts start (g.O.Outside.seen c.args.out.now) d.program c.args.reader.now d) (sym c.in-Ok.ensures)
-    (divided_starts _ _ _ _ (part_is_divided _ _ _ _ _ (not_false _ c.if-not-opened.false) h) c.args.opened.program (started c.args.opened.program 0) is (started_is_device c.args.opened.program c.requires.program is.has.1)))
+    unopened_finish _ _ _ _ _ (c.in-Err.device, c.in-Err.fault) _ (part_whole _ _ _ _ _ _ h is)
+    (subst (λ p. IsOpening p _ (g.O.Outside.seen c.args.out.now) (g.O.Outside.seen c.open_devices.new.out)) c.in-Ok.ensures (c.open_devices.ensures.refused c.in-Err.device c.in-Err.fault c.in-Err.is))
+    (unopened_output _ _) c.refuse_opening.ensures

@@ -1,6 +1,5 @@
 use Rattle.std.proofs.Common.{◌≡◌, ◌≤◌, ◌+◌, ◌-◌, length}
 use Rattle.re_outside.specs.Outside.{Seen}
-use Rattle.re_terms.specs.Programs.{IsProgram}
 use Rattle.re_tool.specs.Reads.{limit}
 use Rattle.re_tool.specs.Serving.{Starts}
 use Rattle.re_tool.proofs.Sessions.{SoFar}
@@ -8,9 +7,8 @@ use Rattle.re_tool.proofs.running.serve.Given as goal
 
 abbrev pub invariant-lines : goal.invariant-lines
 invariant-lines g l = let seen = g.O.Outside.seen in record {
-  so_far : (start : Seen) → Starts start (seen l.fn.out) l.fn.device.program l.fn.reader l.fn.device → SoFar start (seen l.out) l.fn.device.program l.reader l.device;
-  program : l.device.program ≡ l.fn.device.program;
-  is_program : IsProgram l.device.program;
+  so_far : (start : Seen) → Starts start (seen l.fn.out) l.fn.devices.program l.fn.reader l.fn.devices → SoFar start (seen l.out) l.fn.devices.program l.reader l.devices;
+  program : l.devices.program ≡ l.fn.devices.program;
   few : l.reader.taken ≤ limit;
   most : l.line.most ≡ 1026;
 }

@@ -1,9 +1,9 @@
-use Rattle.re_tool.proofs.Caused.{program_cause, input_cause, too_long_cause, end_cause, completes}
+use Rattle.re_tool.proofs.Caused.{completes, end_cause, input_cause, opening_cause, output_cause, program_cause, too_long_cause}
 use Rattle.re_tool.proofs.Failing.{run_stops}
 use Rattle.re_tool.proofs.running.session.Goals as goal
 
 pub returns-in-Run-clause-program : goal.returns-in-Run-clause-program
-returns-in-Run-clause-program g c = rw c.in-Run.is (program_cause _ _ _ _ c.run.ensures)
+returns-in-Run-clause-program g c = program_cause _ _ _ _ c.run.ensures
 
 pub returns-in-Run-clause-input : goal.returns-in-Run-clause-input
 returns-in-Run-clause-input g c = input_cause _ _ _ _ c.run.ensures
@@ -15,7 +15,7 @@ pub returns-in-Check-clause-end : goal.returns-in-Check-clause-end
 returns-in-Check-clause-end g c = rw c.in-Check.is (end_cause _ _ _ _ c.check.ensures)
 
 pub returns-in-Check-clause-program : goal.returns-in-Check-clause-program
-returns-in-Check-clause-program g c = rw c.in-Check.is (program_cause _ _ _ _ c.check.ensures)
+returns-in-Check-clause-program g c = program_cause _ _ _ _ c.check.ensures
 
 pub returns-in-Check-clause-input : goal.returns-in-Check-clause-input
 returns-in-Check-clause-input g c = input_cause _ _ _ _ c.check.ensures
@@ -24,13 +24,25 @@ pub returns-in-Check-clause-too_long : goal.returns-in-Check-clause-too_long
 returns-in-Check-clause-too_long g c = too_long_cause _ _ _ _ c.check.ensures
 
 pub returns-in-Run-clause-complete : goal.returns-in-Run-clause-complete
-returns-in-Run-clause-complete g c = rw c.in-Run.is (completes _ _ _ _ c.run.ensures)
+returns-in-Run-clause-complete g c = completes _ _ _ _ c.run.ensures
 
 pub returns-in-Check-clause-complete : goal.returns-in-Check-clause-complete
-returns-in-Check-clause-complete g c = rw c.in-Check.is (completes _ _ _ _ c.check.ensures)
+returns-in-Check-clause-complete g c = completes _ _ _ _ c.check.ensures
 
 pub returns-in-Run-clause-failures : goal.returns-in-Run-clause-failures
 returns-in-Run-clause-failures g c = run_stops _ _ _ _ c.run.ensures
 
 pub returns-in-Check-clause-failures : goal.returns-in-Check-clause-failures
 returns-in-Check-clause-failures g c = run_stops _ _ _ _ c.check.ensures
+
+pub returns-in-Run-clause-opening : goal.returns-in-Run-clause-opening
+returns-in-Run-clause-opening g c = opening_cause _ _ _ _ c.run.ensures
+
+pub returns-in-Check-clause-opening : goal.returns-in-Check-clause-opening
+returns-in-Check-clause-opening g c = opening_cause _ _ _ _ c.check.ensures
+
+pub returns-in-Run-clause-output : goal.returns-in-Run-clause-output
+returns-in-Run-clause-output g c = output_cause _ _ _ _ c.run.ensures
+
+pub returns-in-Check-clause-output : goal.returns-in-Check-clause-output
+returns-in-Check-clause-output g c = output_cause _ _ _ _ c.check.ensures
