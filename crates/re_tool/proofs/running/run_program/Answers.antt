@@ -1,5 +1,6 @@
-use Rattle.std.proofs.Common.{subst}
+use Rattle.std.proofs.Common.{Some, subst}
 use Rattle.re_tool.specs.Acts.{IsOpening, OpensAs}
+use Rattle.re_tool.specs.Verdict.{Accepted}
 use Rattle.re_tool.proofs.Endings.{near_finish}
 use Rattle.re_tool.proofs.Starting.{all_done, near_part_is, part_is_all, part_is_divided, part_whole, starts_with, unopened_finish, unopened_output}
 use Rattle.re_tool.proofs.running.run_program.Goals as goal
@@ -17,6 +18,7 @@ returns-in-Ok-2 g c = λ start text h is.
 
 pub returns : goal.returns
 returns g c = λ start text h is.
-    unopened_finish _ _ _ _ _ (c.in-Err.device, c.in-Err.fault) _ (part_whole _ _ _ _ _ _ h is)
-    (subst (λ p. IsOpening p _ (g.O.Outside.seen c.args.out.now) (g.O.Outside.seen c.open_devices.new.out)) c.in-Ok.ensures (c.open_devices.ensures.refused c.in-Err.device c.in-Err.fault c.in-Err.is))
-    (unopened_output _ _) c.refuse_opening.ensures
+    let p = c.args.read.program in
+    unopened_finish _ _ _ _ p (c.in-Err.device, c.in-Err.fault) _ (part_whole _ _ _ _ _ (Accepted p) h is)
+    (subst (λ q. IsOpening q (Some (c.in-Err.device, c.in-Err.fault)) (g.O.Outside.seen c.args.out.now) (g.O.Outside.seen c.open_devices.new.out)) c.in-Ok.ensures (c.open_devices.ensures.refused c.in-Err.device c.in-Err.fault c.in-Err.is))
+    (unopened_output p (c.in-Err.device, c.in-Err.fault)) c.refuse_opening.ensures
