@@ -12,7 +12,6 @@ mod reader;
 mod reading;
 mod running;
 mod status;
-
 mod top;
 mod words;
 

@@ -71,7 +71,11 @@ fn unopened_line(
 {
     let name = device_name(p, device);
     match fault {
-        OpenFault::BadStore { file, at } => device_line(alloc, name, &bad_store_text(alloc, file, at)?),
+        OpenFault::BadStore { file, at } => device_line(
+            alloc,
+            name,
+            &bad_store_text(alloc, file, at)?,
+        ),
         OpenFault::OtherProgram => device_line(alloc, name, b"other program"),
         _ => device_line(alloc, name, b"disk fault"),
     }
