@@ -8,4 +8,5 @@ pub mod NeverMemory
 pub mod Plans
 pub mod Quiet
 pub mod Refusals
+pub mod Stopping
 pub mod VarWords
