@@ -44,30 +44,34 @@ outputs_front (step.Sync device file ∷ xs) ys o = absurd o
 outputs_front (step.Fail call device file at bytes content ∷ xs) ys o = (o.0, outputs_front xs ys o.1)
 
 -- the steps up to a moment and those behind it
-parts : (x now y : Past) (steps : List Step) → y ≡ with_steps x steps → (on : IsBefore x now) (nn : IsBefore now y) → on.0 ++ nn.0 ≡ steps
+pub parts : (x now y : Past) (steps : List Step) → y ≡ with_steps x steps → (on : IsBefore x now) (nn : IsBefore now y) → on.0 ++ nn.0 ≡ steps
 parts x now y steps is on nn =
     append_cancel_left x.trace _ _ (sym (append_assoc x.trace on.0 nn.0) ∙ (ap (λ (l : List Step). l ++ nn.0) (sym (ap (λ (q : Past). q.trace) on.1)) ∙ (sym (ap (λ (q : Past). q.trace) nn.1) ∙ ap (λ (q : Past). q.trace) is)))
 
-said_on : (x now : Past) (on : IsBefore x now) → said now.trace ≡ said x.trace ++ said on.0
+pub said_on : (x now : Past) (on : IsBefore x now) → said now.trace ≡ said x.trace ++ said on.0
 said_on x now on = ap (λ (q : Past). said q.trace) on.1 ∙ said-append x.trace on.0
 
-said_parts : (front back steps : List Step) → front ++ back ≡ steps → said steps ≡ said front ++ said back
+pub said_parts : (front back steps : List Step) → front ++ back ≡ steps → said steps ≡ said front ++ said back
 said_parts front back steps e = sym (ap said e) ∙ said-append front back
 
-none_front : (xs ys : List ℕ) → [] ≡ xs ++ ys → xs ≡ []
+pub none_front : (xs ys : List ℕ) → [] ≡ xs ++ ys → xs ≡ []
 none_front [] ys e = refl
 none_front (x ∷ xs) ys e = absurd (cc)
 
-moved : {P : List Step → Type 0} (x y : Seen) (read text : List ℕ) (f : Faults) → x.told ≡ true → (d : DoesWith P x y read text f) → past_in 0 y ≡ with_steps (past_in 0 x) d.steps
+pub moved : {P : List Step → Type 0} (x y : Seen) (read text : List ℕ) (f : Faults) → x.told ≡ true → (d : DoesWith P x y read text f) → past_in 0 y ≡ with_steps (past_in 0 x) d.steps
 moved x y read text f told d = λ i. record { device = 0; start = d.moves.start told i; trace = d.moves.trace told i }
 
 -- A moment while bytes are read and a text is said: no file has changed, and a front of the text is said.
 pub record While (x : Seen) (text : List ℕ) (now : Past) : Type 0 where
-  pub images : (files : ℕ → ℕ → List ℕ) → IsJointImage now files → IsJointImage (past_in 0 x) files
+  pub kept : (d g : ℕ) → IsKept d g (past_in 0 x) now
   pub front : List ℕ
   pub tail : List ℕ
   pub whole : text ≡ front ++ tail
   pub says : said now.trace ≡ said x.trace ++ front
+
+-- what a stop leaves then could have been left before
+pub images_were : (x : Seen) (text : List ℕ) (now : Past) → While x text now → (files : ℕ → ℕ → List ℕ) → IsJointImage now files → IsJointImage (past_in 0 x) files
+images_were x text now here files images = λ d g. (here.kept d g).images (files d g) (images d g)
 
 pub throughout_outputs : (x y : Seen) (read text : List ℕ) (f : Faults) → x.told ≡ true → Does x y read text f → Throughout (past_in 0 x) (past_in 0 y) (While x text)
 throughout_outputs x y read text f told d = record {
@@ -76,7 +80,7 @@ throughout_outputs x y read text f told d = record {
       let e = parts (past_in 0 x) now (past_in 0 y) d.steps (moved x y read text f told d) on nn in
       let o : AreOutputs on.0 = outputs_front on.0 nn.0 (subst AreOutputs (sym e) d.holds) in
       record {
-        images = λ files images i g. (subst (IsKept i g (past_in 0 x)) (sym on.1) (kept_by_outputs i g (past_in 0 x) on.0 o)).images (files i g) (images i g);
+        kept = λ i g. subst (IsKept i g (past_in 0 x)) (sym on.1) (kept_by_outputs i g (past_in 0 x) on.0 o);
         front = said on.0;
         tail = said nn.0;
         whole = sym d.says ∙ said_parts on.0 nn.0 d.steps e;
@@ -164,7 +168,7 @@ stops_reading p w lines v a b base read f told before is d =
     weaken (past_in 0 a) (past_in 0 b) (While a []) (Stops p w lines base)
     (λ now here files images.
         let quiet : here.front ≡ [] = none_front here.front here.tail here.whole in
-        stop_here p w lines base now files None (here.says ∙ ap (λ t. said a.trace ++ t) quiet ∙ append-nil (said a.trace) ∙ before) tt (rest_restores p w v a files is (here.images files images)))
+        stop_here p w lines base now files None (here.says ∙ ap (λ t. said a.trace ++ t) quiet ∙ append-nil (said a.trace) ∙ before) tt (rest_restores p w v a files is (images_were a [] now here files images)))
     (throughout_outputs a b read [] f told d)
 
 -- ---- many lines
@@ -210,7 +214,7 @@ module _ (p : Program) (w : World) (l : DoneLine) (lines : List DoneLine) (v v' 
   saying : Throughout (past_in 0 act.done) (past_in 0 b) (Stops p w (l ∷ lines) (past_in 0 a))
   saying =
       weaken (past_in 0 act.done) (past_in 0 b) (While act.done (said_of p l.answer)) (Stops p w (l ∷ lines) (past_in 0 a))
-      (λ now here files images. stop_behind p w l lines (past_in 0 a) now files here.front here.tail (here.says ∙ ap (λ t. t ++ here.front) said_done) (act_text ∙ here.whole) (rest_restores p after v' act.done files led.1 (here.images files images)))
+      (λ now here files images. stop_behind p w l lines (past_in 0 a) now files here.front here.tail (here.says ∙ ap (λ t. t ++ here.front) said_done) (act_text ∙ here.whole) (rest_restores p after v' act.done files led.1 (images_were act.done (said_of p l.answer) now here files images)))
       (throughout_outputs act.done b [] (said_of p l.answer) none act_done_told act.says)
 
   pub stops_act : Throughout (past_in 0 a) (past_in 0 b) (Stops p w (l ∷ lines) (past_in 0 a))
