@@ -1,6 +1,6 @@
 -- Why a command is refused, by the device that it finds.
-use Rattle.std.proofs.Common.{◌≡◌, inl, inr, ℕ, Option, Some, None, refl, sym, ap, subst, ◌∙◌}
-use Rattle.std.specs.Prelude.{Bool, false, true, option_and_then}
+use Rattle.std.proofs.Common.{◌≡◌, inl, inr, ℕ, Option, Some, None, refl, sym, ap, subst}
+use Rattle.std.specs.Prelude.{false, true, option_and_then}
 use Rattle.std.specs.Option.{option_map_or, option_or}
 use Rattle.re_device.specs.Causes.{IsCausedBy, is_caused}
 use Rattle.re_device.specs.Device.{DeviceState}

@@ -5,10 +5,10 @@ use mathlib.Core.Bool.{true≢false}
 use Rattle.std.proofs.lemmas.Bool.Decides.{eqb_tells}
 use Rattle.re_device.specs.Committing.{HasDiskCause, record_reads_open}
 use Rattle.re_device.specs.Device.{DeviceState}
-use Rattle.re_device.specs.Stepping.{IsDeviceOf, answered_as, fared_as, refused_as}
+use Rattle.re_device.specs.Stepping.{IsDeviceOf, answered_as, fared_as}
 use Rattle.re_device.specs.declared.fault.DeviceFault.{DeviceFault}
 use Rattle.re_device.specs.declared.fault.DeviceFault.TheVariants as fault
-use Rattle.re_outside.specs.Outside.{Disk, FaultKind, Faults, Input, Output, Rose, Seen, is_kind}
+use Rattle.re_outside.specs.Outside.{Disk, Input, Output, Rose, Seen}
 use Rattle.re_outside.specs.Port.{disk_faults, other_faults, past_in}
 use Rattle.re_outside.specs.Trace.{IsCrashImageOf, content_of}
 use Rattle.re_print.specs.AnswerTexts.{AscendsWhereSet}

@@ -1,16 +1,13 @@
 -- Commands that call nothing outside, and refusals before anything is called.
-use Rattle.std.proofs.Common.{◌≡◌, ◌<◌, ◌≤◌, ◌+◌, ◌++◌, ◌∷◌, [], ℕ, List, Option, Some, None, length, refl, sym, ap, subst, ◌∙◌, arith}
-use Rattle.std.specs.Prelude.{Bool, false, true, not, map, nat_le, ◌≢◌, ◌==◌, option_map, slice_get, unwrap_or}
+use Rattle.std.proofs.Common.{◌≡◌, ◌<◌, ℕ, Option, Some, None, refl, sym, ap, subst, ◌∙◌}
+use Rattle.std.specs.Prelude.{Bool, false, true, not, option_map, unwrap_or}
 use Rattle.std.specs.Option.{option_or}
-use Rattle.std.specs.List.{All}
-use mathlib.Core.Bool.{true≢false}
 use Rattle.re_device.specs.Device.{DeviceState}
-use Rattle.re_device.specs.Stepping.{IsDeviceOf}
-use Rattle.re_outside.specs.Outside.{FaultKind, Seen}
+use Rattle.re_outside.specs.Outside.{Seen}
 use Rattle.re_outside.specs.Port.{past_in}
 use Rattle.re_print.specs.AnswerTexts.{AscendsWhereSet}
-use Rattle.re_terms.specs.Admission.{IsCommandOf, device_count}
-use Rattle.re_terms.specs.DeviceWorlds.{Fine, Memory, Outcome, World, device_of, fared_answer, has_all_entries, has_all_packets, has_all_unsettled, is_down, is_refusal, is_up, lacks_packet, limit_fault, outcome_of, reads_store, refusal, refused_where, reply, stopped_at, world_after}
+use Rattle.re_terms.specs.Admission.{device_count}
+use Rattle.re_terms.specs.DeviceWorlds.{Fine, Memory, Outcome, World, fared_answer, has_all_entries, has_all_packets, has_all_unsettled, is_down, is_refusal, is_up, lacks_packet, limit_fault, outcome_of, reads_store, refusal, refused_where, reply, stopped_at, world_after}
 use Rattle.re_terms.specs.Worlds.{PlainAnswer, Refused, StoppedAt, limit_code, plain_answer}
 use Rattle.re_terms.specs.declared.command.Answer.{Answer}
 use Rattle.re_terms.specs.declared.command.Answer.TheVariants as answer

@@ -1,41 +1,25 @@
 -- Commands that call nothing outside and are done.
-use Rattle.std.proofs.Common.{◌≡◌, ◌⊎◌, inl, inr, ◌<◌, ◌≤◌, ◌+◌, ◌++◌, ◌∷◌, [], ℕ, List, Option, Some, None, Result, Ok, Err, length, refl, sym, ap, subst, ◌∙◌, arith}
-use Rattle.std.specs.Prelude.{Bool, false, true, not, map, ◌≢◌, ◌==◌, OnOk, if◌then◌else◌, nat_le, slice_set, unwrap_or}
+use Rattle.std.proofs.Common.{◌≡◌, inl, inr, ◌<◌, ◌++◌, [], ℕ, Some, None, refl, sym, ap, subst, ◌∙◌}
+use Rattle.std.specs.Prelude.{false, not, map, ◌≢◌, ◌==◌, if◌then◌else◌, slice_set, unwrap_or}
 use Rattle.std.specs.List.{All}
-use Rattle.std.specs.Option.{option_map_or, option_or}
+use Rattle.std.specs.Option.{option_map_or}
 use mathlib.Core.Bool.{true≢false}
-use Rattle.std.proofs.lemmas.Bool.Decides.{nat_tests}
-use Rattle.std.proofs.lemmas.List.{map-append}
-use Rattle.re_device.proofs.Opening.{shown_packet_is, shown_set_is, shown_word_is}
-use Rattle.re_device.specs.Device.{DeviceMemory, DeviceState, current}
-use Rattle.re_compact.specs.Pair.{StandsIn}
-use Rattle.re_device.specs.Standing.{StandsSettled}
-use Rattle.re_journal.specs.declared.journal.Journal.{Journal}
-use Rattle.re_outside.specs.Frame.{Store}
-use Rattle.re_record.specs.Stores.{ComesTo}
+use Rattle.re_device.specs.Device.{DeviceState}
 use Rattle.re_print.specs.AnswerTexts.{AscendsWhereSet}
-use Rattle.re_device.specs.Stepping.{IsDeviceOf, StepsTo, applied_as, fared_as}
-use Rattle.re_device.specs.declared.fault.DeviceFault.{DeviceFault}
-use Rattle.re_device.specs.declared.fault.DeviceFault.TheVariants as fault
 use Rattle.re_outside.specs.Outside.{Seen}
 use Rattle.re_outside.specs.Port.{past_in}
 use Rattle.re_outside.specs.Trace.{Past}
 use Rattle.re_terms.proofs.CausalSteps.{stepped}
 use Rattle.re_terms.proofs.WorldSteps.{done_after, others_kept, with_at-same}
 use Rattle.re_terms.specs.Admission.{IsCommandOf, device_count}
-use Rattle.re_terms.specs.CausalWorlds.{IsCausalWorld}
-use Rattle.re_terms.specs.DeviceWorlds.{Fine, Outcome, World, apply, device_of, done_answer, done_world, fared_answer, fared_world, outcome_of, put_down, recovered, refusal, reply, settled_taken, spelled, world_after}
-use Rattle.re_terms.specs.Entries.{PlainEntry, run_entries}
-use Rattle.re_terms.specs.Runs.{PlainState, StandsForPlain}
+use Rattle.re_terms.specs.DeviceWorlds.{Fine, Outcome, World, device_of, done_answer, done_world, fared_answer, outcome_of, put_down, recovered, refusal, reply, spelled, world_after}
 use Rattle.re_terms.specs.Shapes.{FitsShape, shape_of}
 use Rattle.re_terms.specs.UpdateStates.{state_of_updates}
-use Rattle.re_terms.specs.Updates.{Update}
-use Rattle.re_terms.specs.Worlds.{Down, PlainAnswer, plain_answer}
+use Rattle.re_terms.specs.Worlds.{Down, plain_answer}
 use Rattle.re_terms.specs.declared.command.Answer.{Answer}
 use Rattle.re_terms.specs.declared.command.Answer.TheVariants as answer
 use Rattle.re_terms.specs.declared.command.Command.{Command}
 use Rattle.re_terms.specs.declared.command.Command.TheVariants as command
-use Rattle.re_terms.specs.declared.entry.Admitted.{Admitted}
 use Rattle.re_terms.specs.declared.program.Program.{Program}
 use Rattle.re_world.proofs.Agreeing.{opens_in}
 use Rattle.re_world.proofs.Inside.{device_has, stop_first}

@@ -1,6 +1,6 @@
 -- A packet is made of what a device has settled.
-use Rattle.std.proofs.Common.{◌≡◌, ◌<◌, ◌≤◌, ◌+◌, ◌++◌, ◌∷◌, [], ℕ, List, Option, Some, None, length, refl, sym, ap, subst, ◌∙◌, arith}
-use Rattle.std.specs.Prelude.{Bool, false, true, ◌≢◌, map, nat_le, option_and_then, slice_get}
+use Rattle.std.proofs.Common.{◌≡◌, ◌<◌, ◌≤◌, ◌++◌, ◌∷◌, [], ℕ, List, Option, Some, None, length, refl, sym, ap, subst, ◌∙◌, arith}
+use Rattle.std.specs.Prelude.{false, true, map, nat_le}
 use Rattle.std.specs.List.{All}
 use Rattle.std.specs.Option.{option_or}
 use mathlib.Core.Bool.{true≢false}
@@ -17,12 +17,11 @@ use Rattle.re_outside.specs.Port.{past_in}
 use Rattle.re_terms.proofs.WorldEffects.{settled-taken}
 use Rattle.re_terms.proofs.WorldSteps.{done_after}
 use Rattle.re_terms.specs.Admission.{IsCommandOf, device_count}
-use Rattle.re_terms.specs.DeviceWorlds.{Fine, World, refusal, refused_where, settled_taken, spelled, world_after}
+use Rattle.re_terms.specs.DeviceWorlds.{Fine, World, refusal, refused_where, settled_taken, spelled}
 use Rattle.re_terms.specs.Listed.{Listed}
 use Rattle.re_terms.specs.Shapes.{FitsShape, shape_of}
 use Rattle.re_terms.specs.Spellings.{packet_bytes}
 use Rattle.re_terms.specs.UpdateStates.{state_of_updates}
-use Rattle.re_terms.specs.Updates.{Update}
 use Rattle.re_terms.specs.Worlds.{Packet, PlainAnswer, Refused}
 use Rattle.re_terms.specs.declared.command.Answer.TheVariants as answer
 use Rattle.re_terms.specs.declared.command.Command.TheVariants as command
@@ -35,7 +34,7 @@ use Rattle.re_world.proofs.Staying.{keeps_done}
 use Rattle.re_world.proofs.Told.{packet_count}
 use Rattle.re_world.specs.Causes.{refusal_in}
 use Rattle.re_world.specs.Standing.{HasDevice, IsWorldOf}
-use Rattle.re_world.specs.State.{AllPlaced, IsKept, IsPacket, IsPlaced, WorldState, device_in, state_of}
+use Rattle.re_world.specs.State.{IsKept, IsPacket, IsPlaced, WorldState, device_in, state_of}
 use Rattle.re_world.specs.Stepping.{DoesInside}
 use Rattle.re_world.specs.declared.world.World.TheInside.{Inside}
 

@@ -1,5 +1,5 @@
 -- What a command leaves that makes no file call.
-use Rattle.std.proofs.Common.{◌≡◌, ℕ, Some, None, refl, sym, ap, ◌∙◌}
+use Rattle.std.proofs.Common.{◌≡◌, ℕ, Some, refl, sym, ◌∙◌}
 use Rattle.std.specs.Prelude.{Bool, false, true, ◌≢◌}
 use mathlib.Core.Bool.{true≢false}
 use Rattle.re_outside.specs.Outside.{Seen}

@@ -1,6 +1,6 @@
 -- Commands that only tell something: what a device shows, and the bytes of a packet.
 use Rattle.std.proofs.Common.{◌≡◌, ◌<◌, ◌≤◌, ◌∷◌, [], ℕ, zero, suc, List, Option, Some, None, Bor, length, refl, sym, ap, subst, ◌∙◌, arith}
-use Rattle.std.specs.Prelude.{Bool, false, true, ◌≢◌, map, nat_le, option_map, slice_get}
+use Rattle.std.specs.Prelude.{Bool, false, true, ◌≢◌, nat_le, option_map, slice_get}
 use Rattle.std.specs.Option.{option_copied, option_map_or, option_or}
 use Rattle.std.proofs.lemmas.Bool.Decides.{nat_tests}
 use Rattle.std.proofs.lemmas.List.{length-map}
@@ -13,7 +13,7 @@ use Rattle.re_outside.specs.Listed.{Listed as Bytes}
 use Rattle.re_outside.specs.Outside.{Seen}
 use Rattle.re_print.specs.AnswerTexts.{AscendsWhereSet}
 use Rattle.re_terms.specs.Admission.{IsCommandOf}
-use Rattle.re_terms.specs.DeviceWorlds.{World, device_state, done_answer, lacks_packet, refusal, refused_where, spelled}
+use Rattle.re_terms.specs.DeviceWorlds.{World, device_state, refused_where, spelled}
 use Rattle.re_terms.specs.Listed.{Listed}
 use Rattle.re_terms.specs.SignalWords.{signal_word}
 use Rattle.re_terms.specs.Views.{view_of}
@@ -22,7 +22,6 @@ use Rattle.re_terms.specs.declared.command.Answer.{Answer}
 use Rattle.re_terms.specs.declared.command.Answer.TheVariants as answer
 use Rattle.re_terms.specs.declared.command.Command.TheVariants as command
 use Rattle.re_terms.specs.declared.program.Program.{Program}
-use Rattle.re_terms.specs.declared.replicated.Pair.{Pair}
 use Rattle.re_terms.specs.declared.replicated.RState.{RState}
 use Rattle.re_world.proofs.Inside.{device_has, lacks_first, memory_does, refused_before, stop_first, unrefused}
 use Rattle.re_world.proofs.Caused.{caused_as, caused_free, device_is, found_up, lacks_is}

@@ -1,5 +1,5 @@
 -- Turns in memory alone.
-use Rattle.std.proofs.Common.{◌≡◌, ◌<◌, ◌++◌, ◌∷◌, [], ℕ, List, Option, Some, None, Result, Ok, Err, length, refl, sym, ap, subst, ◌∙◌}
+use Rattle.std.proofs.Common.{◌≡◌, ◌<◌, ℕ, Option, Some, None, Result, Ok, Err, length, refl, sym, ap, subst, ◌∙◌}
 use Rattle.std.specs.Prelude.{Bool, false, true, ◌≢◌, map, OnOk, slice_set}
 use Rattle.std.specs.List.{All}
 use Rattle.std.specs.Option.{option_map_or}
@@ -8,7 +8,7 @@ use Rattle.re_compact.specs.Pair.{StandsIn}
 use Rattle.re_device.specs.Causes.{IsCausedBy, unsettled_refusal}
 use Rattle.re_device.specs.Device.{DeviceState, with_entry}
 use Rattle.re_device.specs.Standing.{StandsSettled}
-use Rattle.re_device.specs.Stepping.{IsDeviceOf, StepsTo, applied_as, fared_as, refused_as}
+use Rattle.re_device.specs.Stepping.{StepsTo, applied_as, fared_as}
 use Rattle.re_device.specs.declared.fault.DeviceFault.{DeviceFault}
 use Rattle.re_device.specs.declared.fault.DeviceFault.TheVariants as fault
 use Rattle.re_journal.specs.declared.journal.Journal.{Journal}

@@ -1,13 +1,13 @@
 -- What a stop within a command leaves restores, by what it leaves of the files of the command's device.
-use Rattle.std.proofs.Common.{◌≡◌, ◌⊎◌, inl, inr, ◌<◌, ◌++◌, ◌∷◌, [], ℕ, zero, suc, List, Option, Some, None, refl, sym, ap, subst, ◌∙◌}
-use Rattle.std.specs.Prelude.{Bool, false, true, ◌==◌, ◌≢◌, if◌then◌else◌, option_map, slice_get}
+use Rattle.std.proofs.Common.{◌≡◌, ◌⊎◌, inl, inr, ◌<◌, ◌++◌, ◌∷◌, [], ℕ, zero, suc, List, Option, Some, None, refl, sym, ap, subst}
+use Rattle.std.specs.Prelude.{Bool, false, true, if◌then◌else◌, option_map, slice_get}
 use Rattle.std.proofs.lemmas.List.{append-nil}
 use Rattle.re_outside.proofs.Elsewhere as elsewhere
 use Rattle.re_outside.proofs.Moments.{no_step, of_outside}
 use Rattle.re_outside.specs.Moment.{OnlyDeviceMoves, Throughout}
 use Rattle.re_outside.specs.Outside.{Seen}
 use Rattle.re_outside.specs.Port.{past_in}
-use Rattle.re_outside.specs.Trace.{IsBefore, IsCrashImageOf, IsJointImage, Past, as_device}
+use Rattle.re_outside.specs.Trace.{IsCrashImageOf, Past, as_device}
 use Rattle.re_terms.specs.Admission.{device_count}
 use Rattle.re_terms.specs.CausalWorlds.{IsCausalWorld}
 use Rattle.re_terms.specs.DeviceWorlds.{Outcome, World, entries_of, entry_of}

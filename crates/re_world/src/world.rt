@@ -81,6 +81,8 @@ impl World {
         ensures world { (base : ℕ → PlainState) (base_number : ℕ → ℕ) (log : List Update) → O.tells ≡ true → StartsAt p base base_number log (past_in 0 (O.seen out.old)) → IfOk result (λ v. IsWorldOf p (start_world p base base_number log) v (O.seen out.new)) }
         ensures restores { (base : ℕ → PlainState) (base_number : ℕ → ℕ) (log : List Update) → O.tells ≡ true → StartsAt p base base_number log (past_in 0 (O.seen out.old)) → Throughout (past_in 0 (O.seen out.old)) (past_in 0 (O.seen out.new)) (λ now. (files : ℕ → ℕ → List ℕ) → IsJointImage now files → Restores p (start_world p base base_number log) None files) }
 
+        // The number of a refusal is that of a device of the program.
+        ensures number { (d : ℕ) (fault : TheFault) → result ≡ Err (d, fault) → d < device_count p.decls.items }
         // A store is refused for what the files of the device hold, as they read at the call.
         ensures bad { (d file at : ℕ) → O.tells ≡ true → result ≡ Err (d, BadStore file at) → HasStore p d (content_in (O.seen out.old) d 0) (content_in (O.seen out.old) d 1) (stores.Bad file at) }
         ensures other { (d : ℕ) → O.tells ≡ true → result ≡ Err (d, OtherProgram) → HasStore p d (content_in (O.seen out.old) d 0) (content_in (O.seen out.old) d 1) stores.OtherProgram }
