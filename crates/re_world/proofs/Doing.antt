@@ -19,17 +19,19 @@ use Rattle.re_terms.specs.Lines.{may_have_entered}
 use Rattle.re_terms.specs.Worlds.{PlainAnswer, plain_answer}
 use Rattle.re_terms.specs.declared.command.Answer.{Answer}
 use Rattle.re_terms.specs.declared.command.Command.{Command}
+use Rattle.re_terms.specs.declared.command.Command.TheVariants as command
 use Rattle.re_terms.specs.declared.entry.Logged.{Logged}
 use Rattle.re_terms.specs.declared.program.Program.{Program}
 use Rattle.re_world.proofs.CommitSteps.{answered_steps}
 use Rattle.re_world.proofs.Committed.{IsCommit}
 use Rattle.re_world.proofs.FilesMade.{commits_by}
+use Rattle.re_world.proofs.Staying.{no_store, no_store_by, no_store_told, tells_of_store}
 use Rattle.re_world.specs.Calls.{Commits, Leaves}
 use Rattle.re_world.specs.Causes.{HasCause}
 use Rattle.re_world.specs.FileSteps.{CommitsBy, HasFileSteps, Writes, is_disk_refusal}
 use Rattle.re_world.specs.Standing.{HasDevice, IsWorldOf}
 use Rattle.re_world.specs.State.{WorldState, device_in}
-use Rattle.re_world.specs.Stepping.{CountsBy, CountsIf, DoesCommand, Fails, HasStepped, IsLeftStopped, Keeps, NoneRose, OwnRose, RestoresWithin, Shows, StopsAs}
+use Rattle.re_world.specs.Stepping.{CountsBy, CountsIf, DoesCommand, Fails, HasStepped, IsLeftStopped, IsStoreRefusal, Keeps, NoneRose, OwnRose, RestoresWithin, Shows, StopsAs}
 
 -- ---- counts
 
@@ -122,6 +124,13 @@ module _ {T : Type 0} (P : Program → World → Type 0) (done : T → PlainAnsw
     shows_by b reads (Err fault.CounterFull) same cause = none cause
     shows_by b reads (Err fault.DotsSpent) same cause = none cause
 
+    other_by : (q : Result T DeviceFault) → tells_of_store (answered_as done q) ≡ false
+    other_by (Ok y) = no_store_told (done y) (facts.calm y).1
+    other_by (Err f) = no_store_by f
+
+    stores : IsStoreRefusal (plain_answer a) → (d : ℕ) × (c n ≡ command.Restart d)
+    stores is = absurd (no_store (plain_answer a) (ap tells_of_store facts.answer ∙ other_by r) is)
+
     -- ---- what stays
 
     own_number : (d : ℕ) → device_of (c n) ≡ Some d → n ≡ d
@@ -208,6 +217,7 @@ module _ {T : Type 0} (P : Program → World → Type 0) (done : T → PlainAnsw
     caused = subst (HasCause old (c x.memory.device)) (sym facts.answer) facts.caused;
     ascends = facts.ascends;
     counts = subst (λ q. CountsBy (c x.memory.device) q before now) (sym facts.answer) (counts_by x.memory.device facts r facts.cause);
+    stores = stores x.memory.device facts;
     left = facts.left;
     files = own_files facts;
     stepped = own_stepped facts;

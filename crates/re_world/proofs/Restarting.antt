@@ -79,7 +79,7 @@ opened_number p n x number opened number_is = ap (λ (m : DeviceMemory). m.settl
 -- the device is up already
 pub up_does : (v : WorldState) (n : ℕ) (x : DeviceState) → n < device_count v.program.decls.items → device_in v n ≡ Some x → DoesInside v v (command.Restart n) (answer.No 27)
 up_does v n x below place =
-    refused_does v (command.Restart n) (answer.No 27) tt refl refl (up_caused v n x place)
+    refused_does v (command.Restart n) (answer.No 27) tt refl refl refl (up_caused v n x place)
     (λ s. subst (λ o. RestartsFrom o v.program v n (Refused 27) (past_in n s) (past_in n s)) (sym place) refl)
     (λ p w s is. let has = device_has p w v s n (Some x) is below place in up_first p w (command.Restart n) refl refl (ap w.up (sym has.1) ∙ has.0.up))
 
@@ -180,6 +180,7 @@ module _ (tells : Bool) (v : WorldState) (n : ℕ) (before now : Seen) (facts : 
       files = restarts;
       ascends = ascends;
       counts = subst (λ q. CountsBy (command.Restart n) q before now) (sym replies) (counts_by f cause);
+      stores = λ is. (n, refl);
       left = facts.left;
       stepped = λ told. record {
         outcome = fared_opening f;
@@ -228,6 +229,7 @@ module _ (tells : Bool) (v : WorldState) (n : ℕ) (before now : Seen) (facts : 
       files = restarted;
       ascends = tt;
       counts = none own;
+      stores = λ is. (n, refl);
       left = facts.left;
       stepped = λ told. record {
         outcome = Fine;

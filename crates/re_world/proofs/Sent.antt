@@ -97,7 +97,7 @@ module _ (old : WorldState) (n : ℕ) (x : DeviceState) (of : IsCommandOf old.pr
   -- as many were made as there may be
   pub send_none : 10000 ≤ length old.packets → DoesInside old old (command.Send n) (answer.No 35)
   send_none many =
-      refused_before old (command.Send n) (answer.No 35) tt refl refl (caused_as old (command.Send n) (Refused 35) (λ state merges. sends state ∙ ap (λ b. option_or (refused_where b 35) None) (all_made many))) refl
+      refused_before old (command.Send n) (answer.No 35) tt refl refl refl (caused_as old (command.Send n) (Refused 35) (λ state merges. sends state ∙ ap (λ b. option_or (refused_where b 35) None) (all_made many))) refl
       (λ p w s is. by_packets p w s is ∙ ap (λ b. option_or (refused_where b 35) None) (reached w (subst (λ m. 10000 ≤ m) (packet_count p w old s is) many)))
     where
       all_made : 10000 ≤ length old.packets → nat_le 10000 (length old.packets) ≡ true
@@ -135,7 +135,7 @@ module _ (old : WorldState) (n : ℕ) (x : DeviceState) (of : IsCommandOf old.pr
   -- the packet is made
   pub send_does : (new : WorldState) (bytes : List ℕ) (k : ℕ) → length old.packets < 10000 → FitsShape (shape_of x.memory.program) x.memory.settled.state.rep → bytes ≡ packet_bytes (shape_of x.memory.program).devices x.memory.settled.state.rep → new ≡ record old { packets = old.packets ++ bytes ∷ [] } → k ≡ length old.packets → DoesInside old new (command.Send n) (answer.Packet k)
   send_does new bytes k few fits spelt is_new number =
-      done_does old new (command.Send n) (answer.Packet k) tt refl
+      done_does old new (command.Send n) (answer.Packet k) tt refl refl
       (keeps_done old new (command.Send n) (Packet k) refl (ap (λ (v : WorldState). v.program) is_new) (λ d other. ap (λ (v : WorldState). device_in v d) is_new) (λ is. absurd (true≢false (sym is))))
       (caused_free old (command.Send n) (Packet k) refl (λ state merges. sends state ∙ ap (λ b. option_or (refused_where b 35) None) (fewer few)))
       (λ s. refl) Fine (λ s kind. refl)

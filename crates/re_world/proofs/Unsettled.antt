@@ -36,7 +36,7 @@ use Rattle.re_world.proofs.Caused.{device_is, found_up}
 use Rattle.re_world.proofs.Inside.{device_has}
 use Rattle.re_world.proofs.InsideDone.{HoldsAlike, done_does, inside_behind}
 use Rattle.re_world.proofs.Placed.{back_elsewhere, back_here, back_same, place_below}
-use Rattle.re_world.proofs.Staying.{keeps_done}
+use Rattle.re_world.proofs.Staying.{keeps_done, no_store_by, tells_of_store}
 use Rattle.re_world.specs.Causes.{HasCause}
 use Rattle.re_world.specs.FileSteps.{is_disk_refusal}
 use Rattle.re_world.specs.Standing.{HasDevice, IsWorldOf}
@@ -207,6 +207,13 @@ module _ (old new : WorldState) (n : ℕ) (x x' : DeviceState) (t : Admitted) (a
   calm : is_disk_refusal (plain_answer a) ≡ false
   calm = ap is_disk_refusal is.answer ∙ calm_by r is.never
 
+  other : tells_of_store (plain_answer a) ≡ false
+  other = ap tells_of_store is.answer ∙ by_result r
+    where
+      by_result : (q : Result ℕ DeviceFault) → tells_of_store (applied_as q) ≡ false
+      by_result (Ok m) = refl
+      by_result (Err f) = no_store_by f
+
   lazy_keeps : Keeps old new (command.Lazy n t) (plain_answer a)
   lazy_keeps =
       keeps_done old new (command.Lazy n t) (plain_answer a) calm (ap (λ (v : WorldState). v.program) is.back)
@@ -221,6 +228,6 @@ module _ (old new : WorldState) (n : ℕ) (x x' : DeviceState) (t : Admitted) (a
   -- it is a step of each world
   pub lazy_does : DoesInside old new (command.Lazy n t) a
   lazy_does =
-      done_does old new (command.Lazy n t) a (ascends_by a r is.answer) calm lazy_keeps lazy_caused (λ s. refl)
+      done_does old new (command.Lazy n t) a (ascends_by a r is.answer) calm other lazy_keeps lazy_caused (λ s. refl)
       (fared_as x'.journal.stopped false r) (λ s. shows_by old new (command.Lazy n t) s x'.journal.stopped r is.never)
       (λ p w s world. is.answer ∙ steps_here.answers p w (device_has p w old s n (Some x) world is.of.0 is.place).0 tt) lazy_world

@@ -108,12 +108,20 @@ pub record Keeps (old new : WorldState) (c : Command) (a : PlainAnswer) : Type 0
   pub stops : is_disk_refusal a ≡ true → (d : ℕ) → device_of c ≡ Some d → IsLeftStopped (device_in old d) (device_in new d)
   pub packets : is_disk_refusal a ≡ true → new.packets ≡ old.packets
 
+-- the answer says that a store is bad, or another program's
+abbrev pub IsStoreRefusal : PlainAnswer → Type 0
+IsStoreRefusal (Refused code) = code ≡ 39
+IsStoreRefusal (BadFile file at) = Unit {0}
+IsStoreRefusal a = ⊥
+
 -- all that a command does, over an outside that tells what is seen of it or doesn't
 pub record DoesCommand (tells : Bool) (old new : WorldState) (c : Command) (a : Answer) (before now : Seen) : Type 0 where
   pub keeps : Keeps old new c (plain_answer a)
   pub caused : HasCause old c (plain_answer a)
   pub ascends : AscendsWhereSet a
   pub counts : CountsBy c (plain_answer a) before now
+  -- a restart alone is refused for its store
+  pub stores : IsStoreRefusal (plain_answer a) → (d : ℕ) × (c ≡ command.Restart d)
   pub left : tells ≡ true → now.left ≡ before.left
   pub files : tells ≡ true → HasFileSteps old new c (plain_answer a) before now
   pub stepped : tells ≡ true → HasStepped old new c (plain_answer a) before now

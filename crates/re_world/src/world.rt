@@ -26,7 +26,7 @@ ghost use Rattle.re_world.specs.Opening.{HasAllOpeningSteps, IsOpened, OpenBefor
 ghost use Rattle.re_world.specs.Standing.{IsWorldOf};
 ghost use Rattle.re_world.specs.Starting.{StartsAt};
 ghost use Rattle.re_world.specs.State.{device_in};
-ghost use Rattle.re_world.specs.Stepping.{CountsBy, DoesCommand, HasStepped, IsRestartAnswer, Keeps};
+ghost use Rattle.re_world.specs.Stepping.{CountsBy, DoesCommand, HasStepped, IsRestartAnswer, IsStoreRefusal, Keeps};
 
 use crate::opening::open_all;
 use re_compact::OpenFault;
@@ -136,6 +136,8 @@ impl World {
         // The calls on the device's files, in order, up to the first that failed, and how many the device has counted.
         ensures files { O.tells ≡ true → HasFileSteps self.old self.new c (plain_answer result) (O.seen out.old) (O.seen out.new) }
 
+        // A restart alone is refused for its store, whatever the outside tells.
+        ensures stores { IsStoreRefusal (plain_answer result) → (d : ℕ) × (c ≡ command.Restart d) }
         // What the device's files are to the program, as they read at the call, decides the answer to a restart of a device that is down,
         // unless the disk fails or memory runs out; what a restart is refused with for its store is what they are.
         ensures decided { (d : ℕ) (stored : Stored) → O.tells ≡ true → c ≡ command.Restart d → device_in self.old d ≡ None → HasStore self.old.program d (content_in (O.seen out.old) d 0) (content_in (O.seen out.old) d 1) stored → IsRestartAnswer self.old.program d stored (plain_answer result) }

@@ -55,7 +55,7 @@ never_refused r fault place is fails = refuted (subst (λ f. Fails {X = RState} 
 pub returns-in_default : goal.returns-in_default
 returns-in_default g c =
     let v = c.args.self.now in
-    refused_before v (command.Deliver c.args.packet c.args.number) (answer.No 28) tt refl refl
+    refused_before v (command.Deliver c.args.packet c.args.number) (answer.No 28) tt refl refl refl
     (caused_as v (command.Deliver c.args.packet c.args.number) (Refused 28) (λ state merges. lacks_is v (command.Deliver c.args.packet c.args.number) state (none_seen v c.self.inside.packets.items (packets_are v c.self.inside c.self.view_is) c.args.packet (sym c.get.ensures ∙ ap option_copied c.in_default.is)))) refl
     (λ p w s is. lacks_first p w (command.Deliver c.args.packet c.args.number) (none_there p w v s is c.self.inside.packets.items (packets_are v c.self.inside c.self.view_is) c.args.packet (sym c.get.ensures ∙ ap option_copied c.in_default.is)))
     g.O.Outside.tells (g.O.Outside.seen c.args.out.now)
