@@ -16,6 +16,7 @@ use Rattle.re_terms.specs.declared.program.Program.{Program}
 use Rattle.re_world.proofs.Committed.{memory_same, refused_fine}
 use Rattle.re_world.proofs.Caused.{caused_as, down_is, memory_caused}
 use Rattle.re_world.proofs.Staying.{counts_still, keeps_still, no_store, tells_of_store, refused_files}
+use Rattle.re_world.proofs.Taken.{takes_refused}
 use Rattle.re_world.proofs.Within.{within_still}
 use Rattle.re_world.specs.Causes.{HasCause, finds_down, lacks}
 use Rattle.re_world.specs.FileSteps.{HasFileSteps, is_disk_refusal}
@@ -28,12 +29,13 @@ pub device_has : (p : Program) (w : World) (v : WorldState) (s : Seen) (n : ℕ)
 device_has p w v s n o is below place = subst (λ q. HasDevice p w n q (past_in n s)) place (is.devices n (subst (λ (q : Program). n < device_count q.decls.items) is.program below))
 
 -- a command that leaves devices, packets and files does so in each world in which it leaves the world
-pub still_does : (v : WorldState) (c : Command) (a : Answer) (tells : Bool) (s : Seen) (o : Outcome) → AscendsWhereSet a → is_disk_refusal (plain_answer a) ≡ false → tells_of_store (plain_answer a) ≡ false → HasCause v c (plain_answer a) → HasFileSteps v v c (plain_answer a) s s → Shows v v c o s s → ((p : Program) (w : World) → IsWorldOf p w v s → plain_answer a ≡ reply p w c o) → ((p : Program) (w : World) → IsWorldOf p w v s → world_after p w c o ≡ w) → DoesCommand tells v v c a s s
-still_does v c a tells s o ascends calm other caused files shows answers same = record {
+pub still_does : (v : WorldState) (c : Command) (a : Answer) (tells : Bool) (s : Seen) (o : Outcome) → AscendsWhereSet a → is_disk_refusal (plain_answer a) ≡ false → tells_of_store (plain_answer a) ≡ false → is_refusal (plain_answer a) ≡ true → HasCause v c (plain_answer a) → HasFileSteps v v c (plain_answer a) s s → Shows v v c o s s → ((p : Program) (w : World) → IsWorldOf p w v s → plain_answer a ≡ reply p w c o) → ((p : Program) (w : World) → IsWorldOf p w v s → world_after p w c o ≡ w) → DoesCommand tells v v c a s s
+still_does v c a tells s o ascends calm other plain caused files shows answers same = record {
   keeps = keeps_still v c (plain_answer a) calm;
   caused = caused;
   ascends = ascends;
   counts = counts_still c (plain_answer a) s calm;
+  takes = takes_refused v v c (plain_answer a) plain;
   stores = λ is. absurd (no_store (plain_answer a) other is);
   left = λ told. refl;
   files = λ told. files;
@@ -48,12 +50,12 @@ still_does v c a tells s o ascends calm other caused files shows answers same = 
 
 -- want of memory
 pub memory_does : (v : WorldState) (c : Command) → reads_store c ≡ false → DoesInside v v c (answer.No 36)
-memory_does v c own tells s = still_does v c (answer.No 36) tells s Memory tt refl refl (memory_caused v c) (refused_files v c (Refused 36) s own refl refl) (λ kind. refl) (λ p w is. refl) (λ p w is. memory_same p w c)
+memory_does v c own tells s = still_does v c (answer.No 36) tells s Memory tt refl refl refl (memory_caused v c) (refused_files v c (Refused 36) s own refl refl) (λ kind. refl) (λ p w is. refl) (λ p w is. memory_same p w c)
 
 -- a refusal that comes however it fares
 pub refused_does : (v : WorldState) (c : Command) (a : Answer) → AscendsWhereSet a → is_disk_refusal (plain_answer a) ≡ false → tells_of_store (plain_answer a) ≡ false → is_refusal (plain_answer a) ≡ true → HasCause v c (plain_answer a) → ((s : Seen) → HasFileSteps v v c (plain_answer a) s s) → ((p : Program) (w : World) (s : Seen) → IsWorldOf p w v s → refusal p w c ≡ Some (plain_answer a)) → DoesInside v v c a
 refused_does v c a ascends calm other plain caused files comes tells s =
-    still_does v c a tells s Fine ascends calm other caused (files s) (λ kind. refl) (λ p w is. sym (replied p w is)) (λ p w is. refused_fine p w c (ap is_refusal (replied p w is) ∙ plain))
+    still_does v c a tells s Fine ascends calm other plain caused (files s) (λ kind. refl) (λ p w is. sym (replied p w is)) (λ p w is. refused_fine p w c (ap is_refusal (replied p w is) ∙ plain))
   where
     replied : (p : Program) (w : World) → IsWorldOf p w v s → reply p w c Fine ≡ plain_answer a
     replied p w is = ap (λ r. unwrap_or r (fared_answer p w c (outcome_of w c Fine))) (comes p w s is)

@@ -33,6 +33,7 @@ use Rattle.re_world.specs.FileSteps.{HasFileSteps, is_disk_refusal}
 use Rattle.re_world.specs.Standing.{HasDevice, IsWorldOf, RestsAs}
 use Rattle.re_world.specs.State.{WorldState, device_in}
 use Rattle.re_world.specs.Stepping.{DoesInside, Keeps, Shows}
+use Rattle.re_world.specs.Taking.{Takes}
 
 -- the worlds have the same of what the files of a device hold
 pub record HoldsAlike (n : ℕ) (w u : World) : Type 0 where
@@ -77,12 +78,13 @@ module _ (p : Program) (w : World) (old new : WorldState) (s : Seen) (c : Comman
       (back (λ x. HasDevice p x n (device_in new n) (past_in n s)) has)
 
 -- a command that calls nothing outside does all that a command does
-pub done_does : (old new : WorldState) (c : Command) (a : Answer) → AscendsWhereSet a → is_disk_refusal (plain_answer a) ≡ false → tells_of_store (plain_answer a) ≡ false → Keeps old new c (plain_answer a) → HasCause old c (plain_answer a) → ((s : Seen) → HasFileSteps old new c (plain_answer a) s s) → (o : Outcome) → ((s : Seen) → Shows old new c o s s) → ((p : Program) (w : World) (s : Seen) → IsWorldOf p w old s → plain_answer a ≡ reply p w c o) → ((p : Program) (w : World) (s : Seen) → IsWorldOf p w old s → IsWorldOf p (world_after p w c o) new s) → DoesInside old new c a
-done_does old new c a ascends calm other keeps caused files o shows answers world tells s = record {
+pub done_does : (old new : WorldState) (c : Command) (a : Answer) → AscendsWhereSet a → is_disk_refusal (plain_answer a) ≡ false → tells_of_store (plain_answer a) ≡ false → Takes old new c (plain_answer a) → Keeps old new c (plain_answer a) → HasCause old c (plain_answer a) → ((s : Seen) → HasFileSteps old new c (plain_answer a) s s) → (o : Outcome) → ((s : Seen) → Shows old new c o s s) → ((p : Program) (w : World) (s : Seen) → IsWorldOf p w old s → plain_answer a ≡ reply p w c o) → ((p : Program) (w : World) (s : Seen) → IsWorldOf p w old s → IsWorldOf p (world_after p w c o) new s) → DoesInside old new c a
+done_does old new c a ascends calm other takes keeps caused files o shows answers world tells s = record {
   keeps = keeps;
   caused = caused;
   ascends = ascends;
   counts = counts_still c (plain_answer a) s calm;
+  takes = takes;
   stores = λ is. absurd (no_store (plain_answer a) other is);
   left = λ told. refl;
   files = λ told. files s;
@@ -96,9 +98,9 @@ done_does old new c a ascends calm other keeps caused files o shows answers worl
 }
 
 -- one that only tells something leaves the world
-pub told_does : (v : WorldState) (c : Command) (a : Answer) → AscendsWhereSet a → is_disk_refusal (plain_answer a) ≡ false → tells_of_store (plain_answer a) ≡ false → HasCause v c (plain_answer a) → ((s : Seen) → HasFileSteps v v c (plain_answer a) s s) → ((w : World) → done_world w c ≡ w) → ((p : Program) (w : World) (s : Seen) → IsWorldOf p w v s → (refusal p w c ≡ None) × (plain_answer a ≡ done_answer p w c)) → DoesInside v v c a
-told_does v c a ascends calm other caused files same told =
-    done_does v v c a ascends calm other (keeps_still v c (plain_answer a) calm) caused files Fine (λ s kind. refl)
+pub told_does : (v : WorldState) (c : Command) (a : Answer) → AscendsWhereSet a → is_disk_refusal (plain_answer a) ≡ false → tells_of_store (plain_answer a) ≡ false → Takes v v c (plain_answer a) → HasCause v c (plain_answer a) → ((s : Seen) → HasFileSteps v v c (plain_answer a) s s) → ((w : World) → done_world w c ≡ w) → ((p : Program) (w : World) (s : Seen) → IsWorldOf p w v s → (refusal p w c ≡ None) × (plain_answer a ≡ done_answer p w c)) → DoesInside v v c a
+told_does v c a ascends calm other takes caused files same told =
+    done_does v v c a ascends calm other takes (keeps_still v c (plain_answer a) calm) caused files Fine (λ s kind. refl)
     (λ p w s is. (told p w s is).1 ∙ sym (replied p w c (told p w s is).0))
     (λ p w s is. subst (λ u. IsWorldOf p u v s) (sym (done_after p w c (told p w s is).0 ∙ same w)) is)
 
@@ -114,6 +116,7 @@ module _ (old : WorldState) (n : ℕ) (of : IsCommandOf old.program (command.Cra
   pub crash_does : (new : WorldState) (x : DeviceState) → device_in old n ≡ Some x → new ≡ record old { devices = slice_set old.devices n None } → DoesInside old new (command.Crash n) answer.Down
   crash_does new x place is_new =
       done_does old new (command.Crash n) answer.Down tt refl refl
+      (record { device = n; command_is = refl; down = ap (λ (v : WorldState). device_in v n) is_new ∙ place_here old.devices n None (place_below old.devices n x place) })
       (keeps_done old new (command.Crash n) Down refl (ap (λ (v : WorldState). v.program) is_new) (λ d other. ap (λ (v : WorldState). device_in v d) is_new ∙ place_elsewhere old.devices n d None (λ same. other (ap Some (sym same)))) (λ is. absurd (true≢false (sym is))))
       (caused_free old (command.Crash n) Down refl (λ state merges. device_is old (command.Crash n) refl state x (found_up old n x place) refl place)) (λ s. refl) Fine (λ s kind. refl)
       (λ p w s is. sym (replied p w (command.Crash n) (crash_unrefused p w s x is place)))

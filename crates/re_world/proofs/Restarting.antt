@@ -19,7 +19,7 @@ use Rattle.re_record.specs.Stores.{HasStore, OpensTo, Stored}
 use Rattle.re_restore.specs.Opening.{HasRestoreCause, StillOpens}
 use Rattle.re_terms.proofs.WorldSteps.{done_after}
 use Rattle.re_terms.specs.Admission.{device_count}
-use Rattle.re_terms.specs.DeviceWorlds.{BadStore, Failed, Fine, Memory, OtherProgram, Outcome, World, device_of, fared_answer, outcome_of, put_up, recovered, refusal, refused_where, reply, settled_number, world_after}
+use Rattle.re_terms.specs.DeviceWorlds.{BadStore, Failed, Fine, Memory, OtherProgram, Outcome, World, device_of, fared_answer, is_refusal, outcome_of, put_up, recovered, refusal, refused_where, reply, settled_number, world_after}
 use Rattle.re_terms.specs.Programs.{IsProgram}
 use Rattle.re_terms.specs.Worlds.{PlainAnswer, Refused, Up, plain_answer}
 use Rattle.re_terms.specs.declared.command.Answer.{Answer}
@@ -33,6 +33,7 @@ use Rattle.re_world.proofs.InsideDone.{replied}
 use Rattle.re_world.proofs.OpeningSteps.{steps_handed}
 use Rattle.re_world.proofs.Restarted.{entry_is, opened_world, restart_restores, unopened_world}
 use Rattle.re_world.proofs.Staying.{keeps_done}
+use Rattle.re_world.proofs.Taken.{refuses_opening, takes_refused}
 use Rattle.re_world.specs.Causes.{HasCause, device_refusal}
 use Rattle.re_world.specs.FileSteps.{HasFileSteps, RestartsFrom, unopened_as}
 use Rattle.re_world.specs.Opening.{HasOpeningSteps, IsOpened, IsOpeningAnswer}
@@ -180,6 +181,7 @@ module _ (tells : Bool) (v : WorldState) (n : ℕ) (before now : Seen) (facts : 
       files = restarts;
       ascends = ascends;
       counts = subst (λ q. CountsBy (command.Restart n) q before now) (sym replies) (counts_by f cause);
+      takes = takes_refused v v (command.Restart n) (plain_answer a) (ap is_refusal replies ∙ refuses_opening f);
       stores = λ is. (n, refl);
       left = facts.left;
       stepped = λ told. record {
@@ -229,6 +231,7 @@ module _ (tells : Bool) (v : WorldState) (n : ℕ) (before now : Seen) (facts : 
       files = restarted;
       ascends = tt;
       counts = none own;
+      takes = record { device = n; command_is = refl; after = x; place_after = place; opened = opened; number_is = number_is };
       stores = λ is. (n, refl);
       left = facts.left;
       stepped = λ told. record {

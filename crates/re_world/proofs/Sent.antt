@@ -135,7 +135,7 @@ module _ (old : WorldState) (n : ℕ) (x : DeviceState) (of : IsCommandOf old.pr
   -- the packet is made
   pub send_does : (new : WorldState) (bytes : List ℕ) (k : ℕ) → length old.packets < 10000 → FitsShape (shape_of x.memory.program) x.memory.settled.state.rep → bytes ≡ packet_bytes (shape_of x.memory.program).devices x.memory.settled.state.rep → new ≡ record old { packets = old.packets ++ bytes ∷ [] } → k ≡ length old.packets → DoesInside old new (command.Send n) (answer.Packet k)
   send_does new bytes k few fits spelt is_new number =
-      done_does old new (command.Send n) (answer.Packet k) tt refl refl
+      done_does old new (command.Send n) (answer.Packet k) tt refl refl (ap (λ (v : WorldState). v.devices) is_new)
       (keeps_done old new (command.Send n) (Packet k) refl (ap (λ (v : WorldState). v.program) is_new) (λ d other. ap (λ (v : WorldState). device_in v d) is_new) (λ is. absurd (true≢false (sym is))))
       (caused_free old (command.Send n) (Packet k) refl (λ state merges. sends state ∙ ap (λ b. option_or (refused_where b 35) None) (fewer few)))
       (λ s. refl) Fine (λ s kind. refl)

@@ -1,14 +1,14 @@
 -- Turns in memory alone.
-use Rattle.std.proofs.Common.{◌≡◌, ◌<◌, ℕ, Option, Some, None, Result, Ok, Err, length, refl, sym, ap, subst, ◌∙◌}
-use Rattle.std.specs.Prelude.{Bool, false, true, ◌≢◌, map, OnOk, slice_set}
+use Rattle.std.proofs.Common.{◌≡◌, ◌<◌, ◌+◌, ℕ, Option, Some, None, Result, Ok, Err, length, refl, sym, ap, subst, ◌∙◌}
+use Rattle.std.specs.Prelude.{IfOk, Bool, false, true, ◌≢◌, map, OnOk, slice_set}
 use Rattle.std.specs.List.{All}
 use Rattle.std.specs.Option.{option_map_or}
 use mathlib.Core.Bool.{true≢false}
 use Rattle.re_compact.specs.Pair.{StandsIn}
 use Rattle.re_device.specs.Causes.{IsCausedBy, unsettled_refusal}
-use Rattle.re_device.specs.Device.{DeviceState, with_entry}
+use Rattle.re_device.specs.Device.{DeviceState, current, logged, with_entry}
 use Rattle.re_device.specs.Standing.{StandsSettled}
-use Rattle.re_device.specs.Stepping.{StepsTo, applied_as, fared_as}
+use Rattle.re_device.specs.Stepping.{StepsTo, applied_as, fared_as, refused_as}
 use Rattle.re_device.specs.declared.fault.DeviceFault.{DeviceFault}
 use Rattle.re_device.specs.declared.fault.DeviceFault.TheVariants as fault
 use Rattle.re_journal.specs.declared.journal.Journal.{Journal}
@@ -37,11 +37,13 @@ use Rattle.re_world.proofs.Inside.{device_has}
 use Rattle.re_world.proofs.InsideDone.{HoldsAlike, done_does, inside_behind}
 use Rattle.re_world.proofs.Placed.{back_elsewhere, back_here, back_same, place_below}
 use Rattle.re_world.proofs.Staying.{keeps_done, no_store_by, tells_of_store}
+use Rattle.re_world.proofs.Taken.{if_ok, on_ok, refuses, takes_refused}
 use Rattle.re_world.specs.Causes.{HasCause}
 use Rattle.re_world.specs.FileSteps.{is_disk_refusal}
 use Rattle.re_world.specs.Standing.{HasDevice, IsWorldOf}
 use Rattle.re_world.specs.State.{WorldState, device_in}
 use Rattle.re_world.specs.Stepping.{DoesInside, Keeps, Shows}
+use Rattle.re_world.specs.Taking.{Takes}
 
 -- ---- the device
 
@@ -165,6 +167,8 @@ pub record IsLazy (old new : WorldState) (n : ℕ) (x x' : DeviceState) (t : Adm
   pub back : new ≡ record old { devices = slice_set (slice_set old.devices n None) n (Some x') }
   pub answer : plain_answer a ≡ applied_as r
   pub steps : StepsTo x x' (command.Lazy x.memory.device t) (fared_as x'.journal.stopped false r) (applied_as r)
+  pub memory : OnOk r (x'.memory ≡ with_entry x.memory (logged x.memory (entry.Turn t.turn)))
+  pub entry_number : IfOk r (λ k. k ≡ (current x.memory).number + 1)
   pub journal : x'.journal ≡ x.journal
   pub generation : x'.generation ≡ x.generation
   pub own : KeepsOwn x x'
@@ -214,6 +218,28 @@ module _ (old new : WorldState) (n : ℕ) (x x' : DeviceState) (t : Admitted) (a
       by_result (Ok m) = refl
       by_result (Err f) = no_store_by f
 
+  lazy_takes : Takes old new (command.Lazy n t) (plain_answer a)
+  lazy_takes = subst (Takes old new (command.Lazy n t)) (sym is.answer) (by_result r refl)
+    where
+      by_result : (q : Result ℕ DeviceFault) → r ≡ q → Takes old new (command.Lazy n t) (applied_as q)
+      by_result (Ok m) same = record {
+        own = record {
+          number = n;
+          number_is = refl;
+          before = x;
+          place = is.place;
+          after = x';
+          place_after = ap (λ (v : WorldState). device_in v n) is.back ∙ back_here old.devices n None (Some x') below;
+        };
+        taken = entry.Turn t.turn;
+        taken_is = refl;
+        number_is = if_ok (λ k. k ≡ (current x.memory).number + 1) r m is.entry_number same;
+        memory = on_ok r m is.memory same;
+        journal = is.journal;
+        generation = is.generation;
+      }
+      by_result (Err f) same = takes_refused old new (command.Lazy n t) (refused_as f) (refuses f)
+
   lazy_keeps : Keeps old new (command.Lazy n t) (plain_answer a)
   lazy_keeps =
       keeps_done old new (command.Lazy n t) (plain_answer a) calm (ap (λ (v : WorldState). v.program) is.back)
@@ -228,6 +254,6 @@ module _ (old new : WorldState) (n : ℕ) (x x' : DeviceState) (t : Admitted) (a
   -- it is a step of each world
   pub lazy_does : DoesInside old new (command.Lazy n t) a
   lazy_does =
-      done_does old new (command.Lazy n t) a (ascends_by a r is.answer) calm other lazy_keeps lazy_caused (λ s. refl)
+      done_does old new (command.Lazy n t) a (ascends_by a r is.answer) calm other lazy_takes lazy_keeps lazy_caused (λ s. refl)
       (fared_as x'.journal.stopped false r) (λ s. shows_by old new (command.Lazy n t) s x'.journal.stopped r is.never)
       (λ p w s world. is.answer ∙ steps_here.answers p w (device_has p w old s n (Some x) world is.of.0 is.place).0 tt) lazy_world

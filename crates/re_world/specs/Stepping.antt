@@ -25,6 +25,7 @@ use Rattle.re_world.specs.FileSteps.{HasFileSteps, is_disk_refusal}
 use Rattle.re_world.specs.Images.{Restores}
 use Rattle.re_world.specs.Standing.{IsWorldOf}
 use Rattle.re_world.specs.State.{WorldState, device_in}
+use Rattle.re_world.specs.Taking.{Takes}
 
 -- ---- what the outside shows
 
@@ -120,6 +121,7 @@ pub record DoesCommand (tells : Bool) (old new : WorldState) (c : Command) (a : 
   pub caused : HasCause old c (plain_answer a)
   pub ascends : AscendsWhereSet a
   pub counts : CountsBy c (plain_answer a) before now
+  pub takes : Takes old new c (plain_answer a)
   -- a restart alone is refused for its store
   pub stores : IsStoreRefusal (plain_answer a) → (d : ℕ) × (c ≡ command.Restart d)
   pub left : tells ≡ true → now.left ≡ before.left

@@ -27,6 +27,7 @@ ghost use Rattle.re_world.specs.Standing.{IsWorldOf};
 ghost use Rattle.re_world.specs.Starting.{StartsAt};
 ghost use Rattle.re_world.specs.State.{device_in};
 ghost use Rattle.re_world.specs.Stepping.{CountsBy, DoesCommand, HasStepped, IsRestartAnswer, IsStoreRefusal, Keeps};
+ghost use Rattle.re_world.specs.Taking.{Takes};
 
 use crate::opening::open_all;
 use re_compact::OpenFault;
@@ -129,6 +130,8 @@ impl World {
 
         // What stays: the program, all other devices, and after a refusal all, but for the device that stops where a file call failed.
         ensures keeps { Keeps self.old self.new c (plain_answer result) }
+        // What the command leaves in memory of its own device, by its answer.
+        ensures takes { Takes self.old self.new c (plain_answer result) }
         // A command is refused for what is in memory exactly where that refuses it, unless memory runs out.
         ensures caused { HasCause self.old c (plain_answer result) }
         // The code 33 comes exactly where the count of the device's disk rose, and no other count changes.

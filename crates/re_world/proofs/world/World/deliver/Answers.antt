@@ -1,5 +1,5 @@
 -- A delivery is a step of the world.
-use Rattle.std.proofs.Common.{◌≡◌, ◌∙◌, ◌<◌, ◌++◌, ◌∷◌, [], ℕ, List, Option, Some, Result, Ok, Err, Bor, refl, sym, ap, subst, length}
+use Rattle.std.proofs.Common.{◌≡◌, ◌∙◌, ◌<◌, ◌+◌, ◌++◌, ◌∷◌, [], ℕ, List, Option, Some, Result, Ok, Err, Bor, refl, sym, ap, subst, length}
 use Rattle.std.specs.Prelude.{◌^◌, map, slice_get}
 use Rattle.std.specs.Option.{option_copied}
 use Rattle.re_device.specs.Device.{current, logged, with_entry}
@@ -24,12 +24,14 @@ use Rattle.re_terms.specs.Shapes.{FitsShape, IsShape, shape_of}
 use Rattle.re_terms.specs.Spellings.{packet_bytes}
 use Rattle.re_terms.specs.declared.replicated.RState.{RState}
 use Rattle.re_terms.specs.declared.replicated.Shape.{Shape}
+use Rattle.re_world.specs.FileSteps.{IsPacketState}
 use Rattle.re_world.specs.State.{IsDeviceIn, IsPacket, WorldState, state_of}
 use Rattle.re_wire.specs.Reading.{Fails}
 use Rattle.re_wire.specs.declared.fault.WireFault.{WireFault}
 use Rattle.re_wire.specs.declared.fault.WireFault.TheVariants as wire
 use Rattle.re_world.specs.declared.world.World.TheInside.{Inside}
 use Rattle.re_world.specs.Stepping.{DoesCommand}
+use Rattle.re_world.proofs.Taken.{if_ok, on_ok}
 use Rattle.re_world.proofs.world.World.deliver.Goals as goal
 
 -- the packets as they are kept
@@ -101,6 +103,12 @@ returns g c =
     let x' = c.take_merge-taken.new.device in
     let placed : IsDeviceIn v.program n x = c.in-Some-take_out.ensures.placed in
     let below = subst (λ k. n < k) (sym c.take_out.ensures.count) c.requires in
+    let packet_is : IsPacketState v c.args.packet c.in-Ok.state =
+    let program : c.self.inside.program ≡ v.program = ap (λ (u : WorldState). u.program) c.self.view_is in
+    let place = at_place c.get.result c.in-Some.bytes c.self.inside.packets.items c.args.packet c.get.ensures c.in-Some.is in
+    packet_state v c.args.packet c.in-Some.bytes.now.items c.in-Ok.state (kept_at v c.self.inside.packets.items c.args.packet c.in-Some.bytes.now (packets_are v c.self.inside c.self.view_is) place)
+    (subst (λ q. IsPacket q c.in-Some.bytes.now.items) program (all_at (IsPacket c.self.inside.program) (state_of c.self.inside).packets c.args.packet c.in-Some.bytes.now.items c.self.invariant.packets (kept_at (state_of c.self.inside) c.self.inside.packets.items c.args.packet c.in-Some.bytes.now refl place)))
+    (λ r fits same. read_is c.in-Ok.state r (c.in-Ok.ensures.only r (subst (λ q. FitsShape q r) (sym (c.self.invariant.shape ∙ ap shape_of program)) fits) (c.as_slice.ensures ∙ same ∙ ap (λ (q : Shape). packet_bytes q.devices r) (sym (c.self.invariant.shape ∙ ap shape_of program))))) in
     commit_does (IsPacketOf x c.args.packet c.in-Ok.state) (λ (d : Done). Entered d.number) (x.memory.unsettled ++ logged x.memory (entry.Merge c.in-Ok.state) ∷ []) (current (with_entry x.memory (logged x.memory (entry.Merge c.in-Ok.state)))) g.O.Outside.tells v c.put_in.new.self x x' (λ k. command.Deliver c.args.packet k) c.entered.result (g.O.Outside.seen c.args.out.now) (g.O.Outside.seen c.take_merge-taken.new.out) c.take_merge-taken.result n placed.number_is
     (record {
       of = c.requires;
@@ -127,6 +135,20 @@ returns g c =
       enters = λ y. refl;
       calm = λ y. (refl, refl);
       leaves = c.take_merge-taken.ensures.leaves;
+      takes = λ y same. record {
+        own = record {
+          number = n;
+          number_is = refl;
+          before = x;
+          place = sym c.take_out.ensures.device ∙ c.in-Some-take_out.is;
+          after = x';
+          place_after = back_place v c.take_out.new.self c.put_in.new.self n x' c.take_out.ensures.rest c.put_in.ensures below;
+        };
+        taken = entry.Merge c.in-Ok.state;
+        taken_is = (c.in-Ok.state, packet_is, refl);
+        number_is = if_ok (λ (d : Done). d.number ≡ (current x.memory).number + 1) c.take_merge-taken.result y c.take_merge-taken.ensures.number same;
+        memory = on_ok c.take_merge-taken.result y c.take_merge-taken.ensures.memory same;
+      };
       caused = λ state merges.
           let program : c.self.inside.program ≡ v.program = ap (λ (u : WorldState). u.program) c.self.view_is in
           let at = at_place c.get.result c.in-Some.bytes c.self.inside.packets.items c.args.packet c.get.ensures c.in-Some.is in
@@ -141,15 +163,7 @@ returns g c =
           (sym (device_is v (command.Deliver c.args.packet n) (one_seen v c.self.inside.packets.items kept c.args.packet c.in-Some.bytes.now at) state x (found_up v n x place) refl place))
           (subst (λ (r : RState). IsCausedBy (entry_refusal x (entry.Merge r)) (entered_as c.take_merge-taken.result)) same c.take_merge-taken.ensures.caused);
       same = back_all v c.take_out.new.self c.put_in.new.self n x' c.take_out.ensures.rest c.put_in.ensures x (sym c.take_out.ensures.device ∙ c.in-Some-take_out.is);
-      writes =
-          let program : c.self.inside.program ≡ v.program = ap (λ (u : WorldState). u.program) c.self.view_is in
-          let place = at_place c.get.result c.in-Some.bytes c.self.inside.packets.items c.args.packet c.get.ensures c.in-Some.is in (
-            c.in-Ok.state,
-            packet_state v c.args.packet c.in-Some.bytes.now.items c.in-Ok.state (kept_at v c.self.inside.packets.items c.args.packet c.in-Some.bytes.now (packets_are v c.self.inside c.self.view_is) place)
-                (subst (λ q. IsPacket q c.in-Some.bytes.now.items) program (all_at (IsPacket c.self.inside.program) (state_of c.self.inside).packets c.args.packet c.in-Some.bytes.now.items c.self.invariant.packets (kept_at (state_of c.self.inside) c.self.inside.packets.items c.args.packet c.in-Some.bytes.now refl place)))
-                (λ r fits same. read_is c.in-Ok.state r (c.in-Ok.ensures.only r (subst (λ q. FitsShape q r) (sym (c.self.invariant.shape ∙ ap shape_of program)) fits) (c.as_slice.ensures ∙ same ∙ ap (λ (q : Shape). packet_bytes q.devices r) (sym (c.self.invariant.shape ∙ ap shape_of program))))),
-            refl,
-          );
+      writes = (c.in-Ok.state, packet_is, refl);
       files = λ made. made;
       fails = λ at gate_open stops. (n, refl, stops);
     })

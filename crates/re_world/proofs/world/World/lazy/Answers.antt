@@ -48,6 +48,8 @@ returns-in-Ok g c =
       back = c.put_in.ensures ∙ ap (λ (v : WorldState). record v { devices = slice_set v.devices n (Some x') }) c.take_out.ensures.rest;
       answer = sym (ap applied_as c.in-Ok.is);
       steps = c.lazy-applied.ensures.world;
+      memory = c.lazy-applied.ensures.memory;
+      entry_number = c.lazy-applied.ensures.number;
       journal = c.lazy-applied.ensures.store.0;
       generation = c.lazy-applied.ensures.store.1;
       own = keeps_own x x' _ r c.lazy-applied.ensures.memory c.lazy-applied.ensures.unchanged;
@@ -71,6 +73,8 @@ returns-in-Err g c =
       back = c.put_in.ensures ∙ ap (λ (v : WorldState). record v { devices = slice_set v.devices n (Some x') }) c.take_out.ensures.rest;
       answer = c.refused.ensures ∙ sym (ap applied_as c.in-Err.is);
       steps = c.lazy-applied.ensures.world;
+      memory = c.lazy-applied.ensures.memory;
+      entry_number = c.lazy-applied.ensures.number;
       journal = c.lazy-applied.ensures.store.0;
       generation = c.lazy-applied.ensures.store.1;
       own = keeps_own x x' _ r c.lazy-applied.ensures.memory c.lazy-applied.ensures.unchanged;

@@ -1,5 +1,5 @@
 -- A settling is a step of the world.
-use Rattle.std.proofs.Common.{◌∙◌, ◌<◌, refl, sym, ap, subst}
+use Rattle.std.proofs.Common.{◌≡◌, ◌∙◌, ◌<◌, refl, sym, ap, subst}
 use Rattle.re_device.specs.Device.{current}
 use Rattle.re_terms.specs.Worlds.{Settled}
 use Rattle.re_terms.specs.declared.command.Answer.TheVariants as answer
@@ -13,6 +13,7 @@ use Rattle.re_world.proofs.Inside.{down_does}
 use Rattle.re_world.proofs.Placed.{back_all, back_others, back_packets, back_place, back_program, none_taken_out, no_some}
 use Rattle.re_world.specs.State.{IsDeviceIn, WorldState}
 use Rattle.re_world.specs.Stepping.{DoesCommand}
+use Rattle.re_world.proofs.Taken.{if_ok, on_ok}
 use Rattle.re_world.proofs.world.World.settle.Goals as goal
 
 pub returns-in_default : goal.returns-in_default
@@ -62,6 +63,19 @@ returns g c =
       enters = λ y. refl;
       calm = λ y. (refl, refl);
       leaves = c.settle_entries-taken.ensures.leaves;
+      takes = λ y same. record {
+        own = record {
+          number = n;
+          number_is = refl;
+          before = x;
+          place = sym c.take_out.ensures.device ∙ c.in-Some.is;
+          after = x';
+          place_after = back_place v c.take_out.new.self c.put_in.new.self n x' c.take_out.ensures.rest c.put_in.ensures below;
+        };
+        command_is = refl;
+        number_is = if_ok (λ k. k ≡ (current x.memory).number) c.settle_entries-taken.result y c.settle_entries-taken.ensures.number same;
+        memory = on_ok c.settle_entries-taken.result y c.settle_entries-taken.ensures.memory same;
+      };
       caused = λ state merges. subst (λ o. IsCausedBy o (settled_as c.settle_entries-taken.result)) (sym (device_is v (command.Settle n) refl state x (found_up v n x (sym c.take_out.ensures.device ∙ c.in-Some.is)) refl (sym c.take_out.ensures.device ∙ c.in-Some.is))) c.settle_entries-taken.ensures.caused;
       same = back_all v c.take_out.new.self c.put_in.new.self n x' c.take_out.ensures.rest c.put_in.ensures x (sym c.take_out.ensures.device ∙ c.in-Some.is);
       writes = refl;
