@@ -13,12 +13,13 @@ use Rattle.re_terms.specs.declared.command.Answer.{Answer}
 use Rattle.re_terms.specs.declared.command.Answer.TheVariants as answer
 use Rattle.re_terms.specs.declared.command.Command.{Command}
 use Rattle.re_terms.specs.declared.program.Program.{Program}
+use Rattle.re_terms.specs.declared.replicated.RState.{RState}
 use Rattle.re_world.proofs.Committed.{memory_same, refused_fine}
 use Rattle.re_world.proofs.Caused.{caused_as, down_is, memory_caused}
 use Rattle.re_world.proofs.Staying.{counts_still, keeps_still, no_store, tells_of_store, refused_files}
 use Rattle.re_world.proofs.Taken.{takes_refused}
 use Rattle.re_world.proofs.Within.{within_still}
-use Rattle.re_world.specs.Causes.{HasCause, finds_down, lacks}
+use Rattle.re_world.specs.Causes.{HasCause, Merges, finds_down, lacks}
 use Rattle.re_world.specs.FileSteps.{HasFileSteps, is_disk_refusal}
 use Rattle.re_world.specs.Standing.{HasDevice, IsWorldOf}
 use Rattle.re_world.specs.State.{WorldState, device_in}
@@ -49,8 +50,8 @@ still_does v c a tells s o ascends calm other plain caused files shows answers s
 }
 
 -- want of memory
-pub memory_does : (v : WorldState) (c : Command) → reads_store c ≡ false → DoesInside v v c (answer.No 36)
-memory_does v c own tells s = still_does v c (answer.No 36) tells s Memory tt refl refl refl (memory_caused v c) (refused_files v c (Refused 36) s own refl refl) (λ kind. refl) (λ p w is. refl) (λ p w is. memory_same p w c)
+pub memory_does : (v : WorldState) (c : Command) → reads_store c ≡ false → (state : RState) × Merges v c state → DoesInside v v c (answer.No 36)
+memory_does v c own merged tells s = still_does v c (answer.No 36) tells s Memory tt refl refl refl (memory_caused v c merged) (refused_files v c (Refused 36) s own refl refl) (λ kind. refl) (λ p w is. refl) (λ p w is. memory_same p w c)
 
 -- a refusal that comes however it fares
 pub refused_does : (v : WorldState) (c : Command) (a : Answer) → AscendsWhereSet a → is_disk_refusal (plain_answer a) ≡ false → tells_of_store (plain_answer a) ≡ false → is_refusal (plain_answer a) ≡ true → HasCause v c (plain_answer a) → ((s : Seen) → HasFileSteps v v c (plain_answer a) s s) → ((p : Program) (w : World) (s : Seen) → IsWorldOf p w v s → refusal p w c ≡ Some (plain_answer a)) → DoesInside v v c a
@@ -86,9 +87,9 @@ module _ (p : Program) (w : World) (c : Command) where
       stop_first o not_up stop = (λ i. option_or (refused_where (there i) 28) (option_or (refused_where (not_down i) 26) (option_or (refused_where (not_up i) 27) (option_or (option_map StoppedAt (stop i)) later_refusal))))
 
 -- the device is down
-pub down_does : (v : WorldState) (c : Command) (n : ℕ) → n < device_count v.program.decls.items → device_in v n ≡ None → reads_store c ≡ false → finds_down v c ≡ true → lacks v c ≡ false → ((w : World) → is_down w c ≡ not (w.up n)) → ((p : Program) (w : World) (s : Seen) → IsWorldOf p w v s → lacks_packet w c ≡ false) → DoesInside v v c (answer.No 26)
-down_does v c n below place own finds has down there =
-    refused_before v c (answer.No 26) tt refl refl refl (caused_as v c (Refused 26) (λ state merges. down_is v c has state finds)) own
+pub down_does : (v : WorldState) (c : Command) (n : ℕ) → n < device_count v.program.decls.items → device_in v n ≡ None → reads_store c ≡ false → finds_down v c ≡ true → lacks v c ≡ false → (state : RState) × Merges v c state → ((w : World) → is_down w c ≡ not (w.up n)) → ((p : Program) (w : World) (s : Seen) → IsWorldOf p w v s → lacks_packet w c ≡ false) → DoesInside v v c (answer.No 26)
+down_does v c n below place own finds has merged down there =
+    refused_before v c (answer.No 26) tt refl refl refl (caused_as v c (Refused 26) merged (λ state merges. down_is v c has state finds)) own
     (λ p w s is. down_first p w c (there p w s is) (down w ∙ ap not (device_has p w v s n None is below place)))
 
 -- the device is stopped

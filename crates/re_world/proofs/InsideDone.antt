@@ -24,7 +24,7 @@ use Rattle.re_terms.specs.declared.program.Program.{Program}
 use Rattle.re_world.proofs.Agreeing.{opens_in}
 use Rattle.re_world.proofs.Inside.{device_has, stop_first}
 use Rattle.re_world.proofs.Placed.{none_taken, place_below, place_elsewhere, place_here}
-use Rattle.re_world.proofs.Caused.{caused_free, device_is, found_up}
+use Rattle.re_world.proofs.Caused.{any_state, caused_free, device_is, found_up}
 use Rattle.re_world.proofs.Staying.{counts_still, keeps_done, keeps_still, no_store, tells_of_store}
 use Rattle.re_world.proofs.Stepped.{world_behind}
 use Rattle.re_world.proofs.Within.{within_still}
@@ -118,7 +118,7 @@ module _ (old : WorldState) (n : ℕ) (of : IsCommandOf old.program (command.Cra
       done_does old new (command.Crash n) answer.Down tt refl refl
       (record { device = n; command_is = refl; down = ap (λ (v : WorldState). device_in v n) is_new ∙ place_here old.devices n None (place_below old.devices n x place) })
       (keeps_done old new (command.Crash n) Down refl (ap (λ (v : WorldState). v.program) is_new) (λ d other. ap (λ (v : WorldState). device_in v d) is_new ∙ place_elsewhere old.devices n d None (λ same. other (ap Some (sym same)))) (λ is. absurd (true≢false (sym is))))
-      (caused_free old (command.Crash n) Down refl (λ state merges. device_is old (command.Crash n) refl state x (found_up old n x place) refl place)) (λ s. refl) Fine (λ s kind. refl)
+      (caused_free old (command.Crash n) Down (any_state old, tt) refl (λ state merges. device_is old (command.Crash n) refl state x (found_up old n x place) refl place)) (λ s. refl) Fine (λ s kind. refl)
       (λ p w s is. sym (replied p w (command.Crash n) (crash_unrefused p w s x is place)))
       (λ p w s is.
       done_behind p w old new s (command.Crash n) n is (subst (λ q. IsCommandOf q (command.Crash n)) is.program of) (subst (λ (q : Program). n < device_count q.decls.items) is.program of) refl

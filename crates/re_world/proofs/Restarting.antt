@@ -26,7 +26,7 @@ use Rattle.re_terms.specs.declared.command.Answer.{Answer}
 use Rattle.re_terms.specs.declared.command.Answer.TheVariants as answer
 use Rattle.re_terms.specs.declared.command.Command.TheVariants as command
 use Rattle.re_terms.specs.declared.program.Program.{Program}
-use Rattle.re_world.proofs.Caused.{caused_as, caused_free}
+use Rattle.re_world.proofs.Caused.{any_state, caused_as, caused_free}
 use Rattle.re_world.proofs.Doing.{none_rose}
 use Rattle.re_world.proofs.Inside.{device_has, refused_does, stop_first, up_first}
 use Rattle.re_world.proofs.InsideDone.{replied}
@@ -46,13 +46,13 @@ use Rattle.re_world.specs.Stepping.{CountsBy, DoesCommand, DoesInside, IsLeftSto
 -- a device that is up is refused for that
 up_caused : (v : WorldState) (n : ℕ) (x : DeviceState) → device_in v n ≡ Some x → HasCause v (command.Restart n) (Refused 27)
 up_caused v n x place =
-    caused_as v (command.Restart n) (Refused 27)
+    caused_as v (command.Restart n) (Refused 27) (any_state v, tt)
     (λ state merges. ap (λ o. option_or (refused_where (option_map_or (λ (y : DeviceState). true) o false) 27) (option_and_then (device_refusal v state (command.Restart n)) o)) place)
 
 -- one that is down is refused for nothing in memory
 down_caused : (v : WorldState) (n : ℕ) (a : PlainAnswer) → device_in v n ≡ None → is_caused a ≡ false → HasCause v (command.Restart n) a
 down_caused v n a place free =
-    caused_free v (command.Restart n) a free
+    caused_free v (command.Restart n) a (any_state v, tt) free
     (λ state merges. ap (λ o. option_or (refused_where (option_map_or (λ (y : DeviceState). true) o false) 27) (option_and_then (device_refusal v state (command.Restart n)) o)) place)
 
 -- no refusal of an opening is for what is in memory

@@ -32,7 +32,7 @@ use Rattle.re_terms.specs.declared.entry.Admitted.{Admitted}
 use Rattle.re_terms.specs.declared.entry.Entry.TheVariants as entry
 use Rattle.re_terms.specs.declared.entry.Logged.{Logged}
 use Rattle.re_terms.specs.declared.program.Program.{Program}
-use Rattle.re_world.proofs.Caused.{device_is, found_up}
+use Rattle.re_world.proofs.Caused.{any_state, device_is, found_up}
 use Rattle.re_world.proofs.Inside.{device_has}
 use Rattle.re_world.proofs.InsideDone.{HoldsAlike, done_does, inside_behind}
 use Rattle.re_world.proofs.Placed.{back_elsewhere, back_here, back_same, place_below}
@@ -247,9 +247,12 @@ module _ (old new : WorldState) (n : ℕ) (x x' : DeviceState) (t : Admitted) (a
       (λ refused. lazy_refused r refl (ap is_refusal (sym is.answer) ∙ refused))
 
   lazy_caused : HasCause old (command.Lazy n t) (plain_answer a)
-  lazy_caused state merges =
-      subst (λ o. IsCausedBy o (plain_answer a)) (sym (device_is old (command.Lazy n t) refl state x (found_up old n x is.place) refl is.place))
-      (subst (IsCausedBy (unsettled_refusal x (entry.Turn t.turn))) (sym is.answer) is.caused)
+  lazy_caused = (
+    any_state old,
+    tt,
+    subst (λ o. IsCausedBy o (plain_answer a)) (sym (device_is old (command.Lazy n t) refl (any_state old) x (found_up old n x is.place) refl is.place))
+        (subst (IsCausedBy (unsettled_refusal x (entry.Turn t.turn))) (sym is.answer) is.caused),
+  )
 
   -- it is a step of each world
   pub lazy_does : DoesInside old new (command.Lazy n t) a

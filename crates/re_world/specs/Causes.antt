@@ -61,6 +61,6 @@ abbrev pub Merges : WorldState → Command → RState → Type 0
 Merges v (command.Deliver k d) state = k < length v.packets → IsPacketState v k state
 Merges v c state = Unit {0}
 
--- a command is refused for what is in memory exactly where that refuses it, unless memory runs out
+-- a command is refused for what is in memory exactly where that refuses it, unless memory runs out; where it delivers no packet that is there any state serves
 abbrev pub HasCause : WorldState → Command → PlainAnswer → Type 0
-HasCause v c a = (state : RState) → Merges v c state → IsCausedBy (refusal_in v state c) a
+HasCause v c a = (state : RState) × Merges v c state × IsCausedBy (refusal_in v state c) a

@@ -9,7 +9,7 @@ use Rattle.re_terms.specs.declared.command.Command.TheVariants as command
 use Rattle.re_terms.specs.declared.entry.Entry.TheVariants as entry
 use Rattle.re_device.specs.Causes.{IsCausedBy}
 use Rattle.re_device.specs.Stepping.{entered_as}
-use Rattle.re_world.proofs.Caused.{device_is, found_down, found_up}
+use Rattle.re_world.proofs.Caused.{any_state, device_is, found_down, found_up}
 use Rattle.re_world.proofs.CommitKinds.{turn_commit}
 use Rattle.re_world.proofs.Doing.{commit_does}
 use Rattle.re_world.proofs.Inside.{down_does}
@@ -25,7 +25,7 @@ returns-in_default g c =
     let s = g.O.Outside.seen c.args.out.now in
     let place = sym c.take_out.ensures.device ∙ no_some c.take_out.result c.in_default.not-Some in
     subst (λ u. DoesCommand g.O.Outside.tells v u (command.Turn c.args.number c.args.turn) (answer.No 26) s s) (sym (none_taken_out v c.take_out.new.self c.args.number c.take_out.ensures.rest place))
-    (down_does v (command.Turn c.args.number c.args.turn) c.args.number c.requires.0 place refl (found_down v c.args.number place) refl (λ w. refl) (λ p w t is. refl) g.O.Outside.tells s)
+    (down_does v (command.Turn c.args.number c.args.turn) c.args.number c.requires.0 place refl (found_down v c.args.number place) refl (any_state v, tt) (λ w. refl) (λ p w t is. refl) g.O.Outside.tells s)
 
 pub take_turn-taken-requires : goal.take_turn-taken-requires
 take_turn-taken-requires g c =
@@ -85,7 +85,7 @@ returns g c =
         number_is = if_ok (λ (d : Done). d.number ≡ (current x.memory).number + 1) c.take_turn-taken.result y c.take_turn-taken.ensures.number same;
         memory = on_ok c.take_turn-taken.result y c.take_turn-taken.ensures.memory same;
       };
-      caused = λ state merges. subst (λ o. IsCausedBy o (entered_as c.take_turn-taken.result)) (sym (device_is v (command.Turn n c.args.turn) refl state x (found_up v n x (sym c.take_out.ensures.device ∙ c.in-Some.is)) refl (sym c.take_out.ensures.device ∙ c.in-Some.is))) c.take_turn-taken.ensures.caused;
+      caused = (any_state v, tt, subst (λ o. IsCausedBy o (entered_as c.take_turn-taken.result)) (sym (device_is v (command.Turn n c.args.turn) refl (any_state v) x (found_up v n x (sym c.take_out.ensures.device ∙ c.in-Some.is)) refl (sym c.take_out.ensures.device ∙ c.in-Some.is))) c.take_turn-taken.ensures.caused);
       same = back_all v c.take_out.new.self c.put_in.new.self n x' c.take_out.ensures.rest c.put_in.ensures x (sym c.take_out.ensures.device ∙ c.in-Some.is);
       writes = refl;
       files = λ made. made;
