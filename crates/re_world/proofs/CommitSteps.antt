@@ -99,7 +99,7 @@ module _ (p : Program) (w : World) (v : WorldState) (c : Command) (x : DeviceSta
           within_moves p w v c o before now is d (LeavesEither x.memory after old_past) moments (λ m leaves. leaves.others)
           (λ there m leaves first second a b. elim (opens_either (as_device d m) leaves first second a b) [
             | inl settled ↦ inl (settled_after first second settled)
-            | inr later ↦ inr (subst (λ l. OpensAfter p w d first second (w.settled d ++ l)) (sym line) (record_after first second later))
+            | inr later ↦ inr (inr (record { device_is = commit.device_is; is_commit = commit.is_commit; enters = enters }), subst (λ l. OpensAfter p w d first second (w.settled d ++ l)) (sym line) (record_after first second later))
           ])
         where
           line : further p w (Some (record { asked = c; outcome = o })) d ≡ record_of w c

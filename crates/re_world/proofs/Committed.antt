@@ -21,7 +21,7 @@ use Rattle.re_terms.specs.declared.command.Command.{Command}
 use Rattle.re_terms.specs.declared.command.Command.TheVariants as command
 use Rattle.re_terms.specs.declared.program.Program.{Program}
 use Rattle.re_terms.specs.declared.word.Word.{Word}
-use Rattle.re_world.specs.Images.{OpensAfter}
+use Rattle.re_world.specs.Images.{OpensAfter, commits}
 use Rattle.re_world.specs.Standing.{RestsAs}
 
 -- what is opened is the state after these entries
@@ -59,6 +59,7 @@ standing_rests p w x d now number here causal own runs stands reads = record {
 -- what is asked of such a command
 pub record IsCommit (p : Program) (w : World) (c : Command) (d : ℕ) : Type 0 where
   pub device_is : device_of c ≡ Some d
+  pub is_commit : commits c ≡ true
   pub failed : (at : ℕ) (gate_open : Bool) → failed_world w c at gate_open ≡ doubt w d (record_of w c) at gate_open
   pub stop : (done_world w c).stop ≡ w.stop
   pub packets : (o : Outcome) → (fared_world w c o).packets ≡ w.packets

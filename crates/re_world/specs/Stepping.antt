@@ -46,7 +46,7 @@ pub record ReadsAs (p : Program) (c : Command) (stored : stores.Stored) (before 
   pub command_is : c ≡ command.Restart device
   pub store : HasStore p device (content_in before device 0) (content_in before device 1) stored
 
--- A device has stopped at this call, and this tells whether the gate of the record in hand reads as open.
+-- a device has stopped at this call, and this tells whether the gate of the record in hand reads as open
 pub record StopsAs (old new : WorldState) (d at : ℕ) (gate_open : Bool) (before now : Seen) : Type 0 where
   pub device : DeviceState
   pub place : device_in old d ≡ Some device
@@ -55,12 +55,12 @@ pub record StopsAs (old new : WorldState) (d at : ℕ) (gate_open : Bool) (befor
   pub stopped : device_after.journal.stopped ≡ Some at
   pub reads : gate_open ≡ record_reads_open device (past_in d before) (past_in d now)
 
--- A command failed at this call. Of a restart that fails no device is in memory, and both numbers are free.
+-- a command failed at this call; of a restart that fails no device is in memory, and the call's number and the gate are free
 abbrev pub Fails : WorldState → WorldState → Command → ℕ → Bool → Seen → Seen → Type 0
 Fails old new (command.Restart d) at gate_open before now = Unit {0}
 Fails old new c at gate_open before now = (d : ℕ) × (device_of c ≡ Some d) × StopsAs old new d at gate_open before now
 
--- A command fared so, as the outside shows it: a file call failed exactly where the count of the command's device has risen, and a restart that is refused for its store found files that read so.
+-- a command fared so, as the outside shows it: a file call failed exactly where the count of the command's device has risen, and a restart that is refused for its store found files that read so
 abbrev pub Shows : WorldState → WorldState → Command → Outcome → Seen → Seen → Type 0
 Shows old new c Fine before now = NoneRose before now
 Shows old new c Memory before now = NoneRose before now
