@@ -1,6 +1,7 @@
 pub mod Acting
 pub mod Answering
 pub mod Codes
+pub mod GoingOn
 pub mod Lasting
 pub mod LimitCodes
 pub mod Meanings
