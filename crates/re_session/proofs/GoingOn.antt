@@ -50,7 +50,7 @@ module _ (p : Program) (w : World) (under_way : Option Done) (files : ℕ → �
     starts = record {
       settled = λ d f file image. image_start (s.start d f) file (subst (λ (t : List Step). IsCrashImage (s.start d f) (acts_of d f t) file) fresh image) ∙ (λ i. start i d f) ∙ sym (read d f);
       represents = subst (λ fs. Represents p fs log) (λ i d f. sym (read d f) i) r.represents;
-      bases = λ d below. subst (λ x. IsBaseOf p d x (content_at (past_in 0 s) d 1) log _ _) (sym (read d 0)) (subst (λ x. IsBaseOf p d (files d 0) x log _ _) (sym (read d 1)) (base_by d (cases_lt d count) below));
+      bases = λ d below. subst (λ x. IsBaseOf p d x (content_at (past_in 0 s) d 1) log (state_by d (cases_lt d count)) (number_by d (cases_lt d count))) (sym (read d 0)) (subst (λ x. IsBaseOf p d (files d 0) x log (state_by d (cases_lt d count)) (number_by d (cases_lt d count))) (sym (read d 1)) (base_by d (cases_lt d count) below));
     }
 
     pub goes_on : GoesOn p w under_way files r s
