@@ -20,7 +20,7 @@ use Rattle.re_tool.specs.declared.status.Status.{Status}
 use Rattle.re_tool.specs.declared.status.Status.TheVariants as status
 use Rattle.re_tool.specs.Answers.{Outcomes, Session, behind_part, ending, ending_by, ending_in, ending_of, ending_with, reading_end, unopened_end}
 use Rattle.re_tool.specs.Endings.{Ending, Done, RefusedProgram, InputFault, NoMemory, InputTooLong, status_at}
-use Rattle.re_tool.specs.Causes.{Completes, EndCause, FindsStore, InputCause, IsAcceptedPart, IsRead, IsRefusedPart, IsUnlessEnded, OpeningCause, OutputCause, ProgramCause, TooLongCause, TooMuch}
+use Rattle.re_tool.specs.Causes.{Completes, EndCause, FindsStore, InputCause, IsAcceptedPart, IsRead, IsRefusedPart, IsUnlessEnded, OutputCause, ProgramCause, TooLongCause, TooMuch}
 use Rattle.re_tool.specs.Lines.{split, ended}
 use Rattle.re_tool.specs.Part.{Part, divided, part_of, part_by, is_over}
 use Rattle.re_tool.specs.Reads.{limit}
@@ -34,7 +34,7 @@ use Rattle.re_session.proofs.Acting.{goes_nil}
 use Rattle.re_tool.specs.Verdict.{Verdict, Unknown, Rejected, Accepted, HasVerdict, Decides, IsJudged}
 
 -- the status of a job that isn't cut short
-abbrev status_of : Job → Verdict → Outcomes → List ℕ → Status
+abbrev pub status_of : Job → Verdict → Outcomes → List ℕ → Status
 status_of j v o read = status_at (ending_of j v o.unopened read o.input_failed)
 
 -- how a run ends
@@ -44,7 +44,7 @@ ending_cases j v read o =
     [ None ↦ inr refl | Some p ↦ inl refl ]
 
 -- what the status of a run is
-told_status : (e : Ending) (s : Status) → EndsAs e s → (s ≡ status.Output) ⊎ (status_at e ≡ s)
+pub told_status : (e : Ending) (s : Status) → EndsAs e s → (s ≡ status.Output) ⊎ (status_at e ≡ s)
 told_status e status.Output h = inl refl
 told_status e status.Done h = inr h
 told_status e status.Words h = inr h
@@ -57,13 +57,13 @@ told_status e status.Memory h = inr h
 told_status e status.TooLong h = inr h
 told_status e status.Line h = inr h
 
-joined : (x y : Ending) (s : Status) → (x ≡ NoMemory) ⊎ (x ≡ y) → (s ≡ status.Output) ⊎ (status_at x ≡ s) → IsUnlessEnded (status_at y) s
+pub joined : (x y : Ending) (s : Status) → (x ≡ NoMemory) ⊎ (x ≡ y) → (s ≡ status.Output) ⊎ (status_at x ≡ s) → IsUnlessEnded (status_at y) s
 joined x y s p (inl h) = inr (inr h)
 joined x y s (inl m) (inr h) = inr (inl (sym h ∙ ap status_at m))
 joined x y s (inr k) (inr h) = inl (sym h ∙ ap status_at k)
 
 -- a run ends with the status of what it read, unless memory or output ended it
-ends_with : (j : Job) (a b : Seen) (s : Status) (r : Runs j a b s) → IsUnlessEnded (status_of j r.verdict r.outcomes r.read) s
+pub ends_with : (j : Job) (a b : Seen) (s : Status) (r : Runs j a b s) → IsUnlessEnded (status_of j r.verdict r.outcomes r.read) s
 ends_with j a b s r = joined (ending j r.verdict r.read r.outcomes) (ending_of j r.verdict r.outcomes.unopened r.read r.outcomes.input_failed) s (ending_cases j r.verdict r.read r.outcomes) (told_status _ s r.ends)
 
 -- the status is that of what was read where it is neither for want of memory nor of output
@@ -278,7 +278,7 @@ at_program j a b r t =
     }
 
 -- a run that stopped before its first line ends for want of memory, unless the output failed
-stopped_status : (j : Job) (v : Verdict) (read : List ℕ) (o : Outcomes) (n : ℕ × Bool) → o.stopped ≡ Some n → ending j v read o ≡ NoMemory
+pub stopped_status : (j : Job) (v : Verdict) (read : List ℕ) (o : Outcomes) (n : ℕ × Bool) → o.stopped ≡ Some n → ending j v read o ≡ NoMemory
 stopped_status j v read o n h = ap (λ x. ending_by x j v o.unopened read o.input_failed) h
 
 -- a verdict on a part that is refused ends the run
@@ -298,7 +298,7 @@ refused_by j a b s r part why is h = by (subst (λ x. IsJudged r.verdict x r.out
         subst (λ x. IsUnlessEnded x s) e (ends_with j a b s r)
 
 -- a separator that was read
-separated_part : (read : List ℕ) (failed : Bool) (front back : List (List ℕ)) → divided (split (take limit read)).0 ≡ Some (front, back)
+pub separated_part : (read : List ℕ) (failed : Bool) (front back : List (List ℕ)) → divided (split (take limit read)).0 ≡ Some (front, back)
     → part_of read failed ≡ part_by (split (take limit read)).0 (split (take limit read)).1 (is_over read || failed) (Some (front, back))
 separated_part read failed front back h = ap (part_by (split (take limit read)).0 (split (take limit read)).1 (is_over read || failed)) h
 
@@ -431,25 +431,25 @@ accepted_text : (v : Verdict) (p : Program) (part : Part) (stopped : Option (ℕ
 accepted_text v p part stopped is (inl q) = subst (HasVerdict part.text) is q.has
 accepted_text v p part stopped is (inr q) = let no : Accepted p ≡ Unknown = sym is ∙ q.0 in absurd (cc)
 
-before_on : (p : Program) (d : ℕ) (a m : Seen) → ((e f : ℕ) → content_in m e f ≡ content_in a e f) → OpenBefore p d m → OpenBefore p d a
+pub before_on : (p : Program) (d : ℕ) (a m : Seen) → ((e f : ℕ) → content_in m e f ≡ content_in a e f) → OpenBefore p d m → OpenBefore p d a
 before_on p d a m same h = λ e below. let o = h e below in (o.0, subst (λ x. OpensTo p e (content_in a e 0) x o.0) (same e 1) (subst (λ x. OpensTo p e x (content_in m e 1) o.0) (same e 0) o.1))
 
-store_on : (p : Program) (d : ℕ) (stored : Stored) (a m : Seen) → ((e f : ℕ) → content_in m e f ≡ content_in a e f) → HasStore p d (content_in m d 0) (content_in m d 1) stored → HasStore p d (content_in a d 0) (content_in a d 1) stored
+pub store_on : (p : Program) (d : ℕ) (stored : Stored) (a m : Seen) → ((e f : ℕ) → content_in m e f ≡ content_in a e f) → HasStore p d (content_in m d 0) (content_in m d 1) stored → HasStore p d (content_in a d 0) (content_in a d 1) stored
 store_on p d stored a m same h = subst (λ x. HasStore p d (content_in a d 0) x stored) (same d 1) (subst (λ x. HasStore p d x (content_in m d 1) stored) (same d 0) h)
 
 -- ---- counts of disks
 
-quiet_does : (a b : Seen) (read text : List ℕ) → Does a b read text none → (d : ℕ) → disk_faults d b ≡ disk_faults d a
+pub quiet_does : (a b : Seen) (read text : List ℕ) → Does a b read text none → (d : ℕ) → disk_faults d b ≡ disk_faults d a
 quiet_does a b read text does d = (does.moves.counts (Disk d)).0 refl
 
-quiet_halts : (failed : Bool) (calm halted : Seen) → Halts failed calm halted → (d : ℕ) → disk_faults d halted ≡ disk_faults d calm
+pub quiet_halts : (failed : Bool) (calm halted : Seen) → Halts failed calm halted → (d : ℕ) → disk_faults d halted ≡ disk_faults d calm
 quiet_halts false calm halted h d = ap (disk_faults d) h
 quiet_halts true calm halted f d = (f.moves.counts (Disk d)).0 refl
 
 quiet_breaks : (a b : Seen) (text : List ℕ) → Breaks a b text none → (d : ℕ) → disk_faults d b ≡ disk_faults d a
 quiet_breaks a b text k d = (k.failed.moves.counts (Disk d)).0 refl ∙ quiet_does a k.before [] k.front k.does d
 
-quiet_closes : (halted new : Seen) (last : List ℕ) (s : Status) → Closes halted new last s → (d : ℕ) → disk_faults d new ≡ disk_faults d halted
+pub quiet_closes : (halted new : Seen) (last : List ℕ) (s : Status) → Closes halted new last s → (d : ℕ) → disk_faults d new ≡ disk_faults d halted
 quiet_closes halted new last status.Output k d = quiet_breaks halted new last k d
 quiet_closes halted new last status.Done k d = quiet_does halted new [] last k d
 quiet_closes halted new last status.Words k d = quiet_does halted new [] last k d
@@ -536,7 +536,7 @@ module _ (j : Job) (a b : Seen) (s : Status) (r : Runs j a b s) (h : IsOfStore s
   disk_found is = find_disk is refused_here.0.fault refl refused_here.0.opening.failed
 
 -- at these statuses the program part was read whole
-far_at : (j : Job) (a b : Seen) (s : Status) (r : Runs j a b s) → IsOfStore s → HasSeparator r.read ⊎ IsAtEnd b
+pub far_at : (j : Job) (a b : Seen) (s : Status) (r : Runs j a b s) → IsOfStore s → HasSeparator r.read ⊎ IsAtEnd b
 far_at j a b status.Disk r h = r.far.1
 far_at j a b status.Store r h = r.far.1
 far_at j a b status.OtherProgram r h = r.far.1
@@ -549,12 +549,17 @@ far_at j a b status.Memory r h = absurd (not_store status.Memory _ h refl (λ q.
 far_at j a b status.TooLong r h = absurd (not_store status.TooLong _ h refl (λ q. cc) (λ q. cc) (λ q. cc))
 far_at j a b status.Line r h = absurd (not_store status.Line _ h refl (λ q. cc) (λ q. cc) (λ q. cc))
 
-pub opening_cause : (j : Job) (a b : Seen) (s : Status) → Runs j a b s → OpeningCause a b s
-opening_cause j a b s r = record {
-  bad = λ t is. let h : IsOfStore s = inr (inl is) in bad_found j a b s r h (far_at j a b s r h) t is;
-  other = λ t is. let h : IsOfStore s = inr (inr is) in other_found j a b s r h (far_at j a b s r h) t is;
-  disk = λ is. let h : IsOfStore s = inl is in disk_found j a b s r h (far_at j a b s r h) is;
-}
+-- a store that is bad
+pub bad_here : (j : Job) (a b : Seen) (s : Status) → Runs j a b s → a.told ≡ true → s ≡ status.Store → (p : Program) × (d : ℕ) × (file : ℕ) × (at : ℕ) × FindsStore a b p d (stores.Bad file at)
+bad_here j a b s r t is = let h : IsOfStore s = inr (inl is) in bad_found j a b s r h (far_at j a b s r h) t is
+
+-- one of another program
+pub other_here : (j : Job) (a b : Seen) (s : Status) → Runs j a b s → a.told ≡ true → s ≡ status.OtherProgram → (p : Program) × (d : ℕ) × FindsStore a b p d stores.OtherProgram
+other_here j a b s r t is = let h : IsOfStore s = inr (inr is) in other_found j a b s r h (far_at j a b s r h) t is
+
+-- a disk that failed
+pub disk_here : (j : Job) (a b : Seen) (s : Status) → Runs j a b s → s ≡ status.Disk → (d : ℕ) × Rose (disk_faults d a) (disk_faults d b)
+disk_here j a b s r is = let h : IsOfStore s = inl is in disk_found j a b s r h (far_at j a b s r h) is
 
 counts_rose : (before now : ℕ) → Rose before now → Counts 1 before now
 counts_rose before now h = (λ e. absurd (cc), h)
@@ -669,7 +674,7 @@ completes j a b status.Input r u = absurd (u.quiet Input (at_input j a b r))
 completes j a b status.Output r u = absurd (u.quiet Output (output_cause j a b status.Output r))
 completes j a b status.TooLong r u = absurd (u.few (at_too_long j a b r u.told))
 completes j a b status.Words r u = absurd (run_words j a b r)
-completes j a b status.Store r u = let f = (opening_cause j a b status.Store r).bad u.told refl in absurd (u.bad f.0 f.1 f.2 f.3 f.4)
-completes j a b status.OtherProgram r u = let f = (opening_cause j a b status.OtherProgram r).other u.told refl in absurd (u.others f.0 f.1 f.2)
-completes j a b status.Disk r u = let f = (opening_cause j a b status.Disk r).disk refl in absurd (u.quiet (Disk f.0) (counts_rose _ _ f.1))
+completes j a b status.Store r u = let f = bad_here j a b status.Store r u.told refl in absurd (u.bad f.0 f.1 f.2 f.3 f.4)
+completes j a b status.OtherProgram r u = let f = other_here j a b status.OtherProgram r u.told refl in absurd (u.others f.0 f.1 f.2)
+completes j a b status.Disk r u = let f = disk_here j a b status.Disk r refl in absurd (u.quiet (Disk f.0) (counts_rose _ _ f.1))
 completes j a b status.Line r u = absurd (run_line j a b r)

@@ -15,4 +15,5 @@ pub mod Sessions
 pub mod Splits
 pub mod Starting
 pub mod Stopping
+pub mod Unopened
 pub mod Settling

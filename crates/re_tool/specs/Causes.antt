@@ -1,10 +1,11 @@
 -- When each status comes, in what is seen outside.
-use Rattle.std.specs.Prelude.{ℕ, ◌≡◌, ◌<◌, ◌≤◌, ◌+◌, ◌++◌, ◌⊎◌, length, take, List, Bool, true, false, Some}
+use Rattle.std.specs.Prelude.{ℕ, ◌≡◌, ◌<◌, ◌≤◌, ◌+◌, ◌++◌, ◌⊎◌, length, take, List, Bool, true, false, Option, None, Some}
 use Rattle.std.specs.List.{flat_map}
 use Rattle.re_outside.specs.Outside.{Seen, FaultKind, Input, Output, Counts, IsAtEnd, Rose, content_in}
 use Rattle.re_outside.specs.Port.{disk_faults}
 use Rattle.re_record.specs.Stores as stores
 use Rattle.re_record.specs.Stores.{HasStore, Stored}
+use Rattle.re_terms.specs.Admission.{device_count}
 use Rattle.re_terms.specs.declared.program.Program.{Program}
 use Rattle.re_world.specs.Opening.{OpenBefore}
 use Rattle.re_tool.specs.declared.words.Job.{Job}
@@ -91,11 +92,20 @@ pub record FindsStore (old new : Seen) (p : Program) (d : ℕ) (stored : Stored)
   pub before : OpenBefore p d old
   pub store : HasStore p d (content_in old d 0) (content_in old d 1) stored
 
--- Statuses 4 and 5 come only where the first device that doesn't open has such files, and 6 only where the count of a device's disk rose.
-pub record OpeningCause (old new : Seen) (s : Status) : Type 0 where
+-- the status of a device whose files read as this, where they don't open
+abbrev pub store_status : Stored → Option Status
+store_status (stores.Bad file at) = Some status.Store
+store_status stores.OtherProgram = Some status.OtherProgram
+store_status stored = None
+
+-- Statuses 4 and 5 come exactly where the first device that doesn't open has such files, and 6 only where the count of a device's disk rose.
+pub record OpeningCause (j : Job) (old new : Seen) (s : Status) : Type 0 where
   pub bad : old.told ≡ true → s ≡ status.Store → (p : Program) × (d : ℕ) × (file : ℕ) × (at : ℕ) × FindsStore old new p d (stores.Bad file at)
   pub other : old.told ≡ true → s ≡ status.OtherProgram → (p : Program) × (d : ℕ) × FindsStore old new p d stores.OtherProgram
   pub disk : s ≡ status.Disk → (d : ℕ) × Rose (disk_faults d old) (disk_faults d new)
+  -- where the separator was read, the lines before it are this program, all its devices before one open, the files of that one read so, and the count of no disk rose
+  pub always : (read : List ℕ) (front back : List (List ℕ)) (p : Program) (d : ℕ) (stored : Stored) (wanted : Status) → j ≡ job.Run → old.told ≡ true → old.left ≡ read ++ new.left → divided (split (take limit read)).0 ≡ Some (front, back) → HasVerdict (flat_map ended front) (Accepted p)
+      → OpenBefore p d old → d < device_count p.decls.items → HasStore p d (content_in old d 0) (content_in old d 1) stored → store_status stored ≡ Some wanted → ((e : ℕ) → Rose (disk_faults e old) (disk_faults e new) → ⊥) → IsUnlessEnded wanted s
 
 -- No count of faults rose, no byte too many came, the program part, if it was read whole, isn't refused, and no store is bad or another program's.
 pub record IsUntroubled (old new : Seen) : Type 0 where

@@ -231,7 +231,7 @@ pub fn session<O: Outside>(alloc: Global, job: &Job, out: &mut O) -> Status
     ensures survives { Survives job.now (O.seen out.old) (O.seen out.new) result }
     ensures end { EndCause job.now (O.seen out.old) (O.seen out.new) result }
     ensures program { ProgramCause (O.seen out.old) (O.seen out.new) result }
-    ensures opening { OpeningCause (O.seen out.old) (O.seen out.new) result }
+    ensures opening { OpeningCause job.now (O.seen out.old) (O.seen out.new) result }
     ensures input { InputCause (O.seen out.old) (O.seen out.new) result }
     ensures output { OutputCause (O.seen out.old) (O.seen out.new) result }
     ensures too_long { TooLongCause (O.seen out.old) (O.seen out.new) result }

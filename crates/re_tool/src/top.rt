@@ -33,7 +33,7 @@ pub fn tool<R: Threads + Wait + Sync, O: Outside + Send, G: Gate>(
     ensures words { result ≡ Status.Words → job_of (map string_bytes words.now) ≡ None }
     ensures end { (job : Job) → job_of (map string_bytes words.now) ≡ Some job → EndCause job (O.Outside.seen out.old) (O.Outside.seen out.new) result }
     ensures program { (job : Job) → job_of (map string_bytes words.now) ≡ Some job → ProgramCause (O.Outside.seen out.old) (O.Outside.seen out.new) result }
-    ensures opening { (job : Job) → job_of (map string_bytes words.now) ≡ Some job → OpeningCause (O.Outside.seen out.old) (O.Outside.seen out.new) result }
+    ensures opening { (job : Job) → job_of (map string_bytes words.now) ≡ Some job → OpeningCause job (O.Outside.seen out.old) (O.Outside.seen out.new) result }
     ensures input { InputCause (O.Outside.seen out.old) (O.Outside.seen out.new) result }
     ensures output { OutputCause (O.Outside.seen out.old) (O.Outside.seen out.new) result }
     ensures too_long { TooLongCause (O.Outside.seen out.old) (O.Outside.seen out.new) result }

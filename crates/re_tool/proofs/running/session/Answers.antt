@@ -1,4 +1,5 @@
-use Rattle.re_tool.proofs.Caused.{completes, end_cause, input_cause, opening_cause, output_cause, program_cause, too_long_cause}
+use Rattle.re_tool.proofs.Caused.{completes, end_cause, input_cause, output_cause, program_cause, too_long_cause}
+use Rattle.re_tool.proofs.Unopened.{opening_cause}
 use Rattle.re_tool.proofs.Failing.{run_stops}
 use Rattle.re_tool.proofs.Stopping.{survives}
 use Rattle.re_tool.proofs.running.session.Goals as goal
@@ -37,10 +38,10 @@ pub returns-in-Check-clause-failures : goal.returns-in-Check-clause-failures
 returns-in-Check-clause-failures g c = run_stops _ _ _ _ c.check.ensures
 
 pub returns-in-Run-clause-opening : goal.returns-in-Run-clause-opening
-returns-in-Run-clause-opening g c = opening_cause _ _ _ _ c.run.ensures
+returns-in-Run-clause-opening g c = rw c.in-Run.is (opening_cause _ _ _ _ c.run.ensures)
 
 pub returns-in-Check-clause-opening : goal.returns-in-Check-clause-opening
-returns-in-Check-clause-opening g c = opening_cause _ _ _ _ c.check.ensures
+returns-in-Check-clause-opening g c = rw c.in-Check.is (opening_cause _ _ _ _ c.check.ensures)
 
 pub returns-in-Run-clause-output : goal.returns-in-Run-clause-output
 returns-in-Run-clause-output g c = output_cause _ _ _ _ c.run.ensures

@@ -5,7 +5,8 @@ use Rattle.re_tool.specs.declared.words.Wish.TheVariants as wish
 use Rattle.re_tool.specs.Session.{Runs}
 use Rattle.re_tool.specs.Words.{IsWish}
 use Rattle.re_outside.proofs.Does.{does-nil}
-use Rattle.re_tool.proofs.Caused.{completes, never_words, opening_cause, program_cause}
+use Rattle.re_tool.proofs.Caused.{completes, never_words, program_cause}
+use Rattle.re_tool.proofs.Unopened.{opening_cause}
 use Rattle.std.proofs.Common.{inl, inr}
 use Rattle.re_tool.proofs.Endings.{near_finish}
 use Rattle.re_tool.proofs.Failing.{refused_stops}
@@ -59,3 +60,8 @@ returns-in-Ok-Job-clause-survives g c = λ j h.
 
 pub returns-in-Err-Memory-clause-survives : goal.returns-in-Err-Memory-clause-survives
 returns-in-Err-Memory-clause-survives g c = λ j h. survives j _ _ _ (near_finish j _ _ _ _ (near_stops j _ _ _ (omega arith) (does-nil _)) _ (λ q. absurd (cc)) c.finish-in-Err-Memory.ensures)
+
+pub returns-in-Ok-Job-clause-opening : goal.returns-in-Ok-Job-clause-opening
+returns-in-Ok-Job-clause-opening g c = λ j h.
+    let q = wished c.in-Ok-Job.field-0 in
+    opening_cause j _ _ _ (subst (λ x. Runs x (g.O.Outside.seen c.args.out.now) (g.O.Outside.seen c.session.new.out) c.session.result) (one_job _ c.in-Ok-Job.field-0 q.0 j c.in-Ok-Job.ensures.accepted q.1 h) (rw q.1 at c.session.ensures.runs))
