@@ -167,8 +167,8 @@ pub stops_reading : (p : Program) (w : World) (lines : List DoneLine) (v : World
 stops_reading p w lines v a b base read f told before is d =
     weaken (past_in 0 a) (past_in 0 b) (While a []) (Stops p w lines base)
     (λ now here files images.
-        let quiet : here.front ≡ [] = none_front here.front here.tail here.whole in
-        stop_here p w lines base now files None (here.says ∙ ap (λ t. said a.trace ++ t) quiet ∙ append-nil (said a.trace) ∙ before) tt (rest_restores p w v a files is (images_were a [] now here files images)))
+    let quiet : here.front ≡ [] = none_front here.front here.tail here.whole in
+    stop_here p w lines base now files None (here.says ∙ ap (λ t. said a.trace ++ t) quiet ∙ append-nil (said a.trace) ∙ before) tt (rest_restores p w v a files is (images_were a [] now here files images)))
     (throughout_outputs a b read [] f told d)
 
 -- ---- many lines

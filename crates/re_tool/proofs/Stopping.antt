@@ -193,9 +193,9 @@ module _ (old calm : Seen) (p : Program) (w : World) (lines unanswered : List Do
       join (past_in 0 old) (past_in 0 o.part_read) (past_in 0 o.opened) (LeavesWorld p w lines (past_in 0 old))
       (weaken (past_in 0 old) (past_in 0 o.part_read) (While old []) (LeavesWorld p w lines (past_in 0 old))
       (λ now here files images.
-          let quiet : here.front ≡ [] = none_front here.front here.tail here.whole in
-          let says : said now.trace ≡ said old.trace = here.says ∙ ap (λ t. said old.trace ++ t) quiet ∙ append-nil (said old.trace) in
-          inl (stop_here p w lines (past_in 0 old) now files None says tt (start_left p w old [] now o.opens.opening.is_program begins here files images)))
+      let quiet : here.front ≡ [] = none_front here.front here.tail here.whole in
+      let says : said now.trace ≡ said old.trace = here.says ∙ ap (λ t. said old.trace ++ t) quiet ∙ append-nil (said old.trace) in
+      inl (stop_here p w lines (past_in 0 old) now files None says tt (start_left p w old [] now o.opens.opening.is_program begins here files images)))
       (throughout_outputs old o.part_read o.part [] none begins.told o.reads_part))
       (weaken (past_in 0 o.part_read) (past_in 0 o.opened) (Quiet o.part_read (LeavesStart p w)) (LeavesWorld p w lines (past_in 0 old))
       (λ now here files images. inl (stop_here p w lines (past_in 0 old) now files None (here.says ∙ said_part) tt (here.holds files images)))
