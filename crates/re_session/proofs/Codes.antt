@@ -1,7 +1,7 @@
 -- The codes of refused commands.
 use Rattle.std.proofs.Common.{ℕ, ◌≡◌, ◌≤◌, Bool, true, false, List, Option, None, Some, refl, sym, ap, arith, subst, ◌⊎◌, ◌∙◌, inl, inr}
-use Rattle.std.specs.Prelude.{◌==◌, not, if◌then◌else◌, option_map, unwrap_or}
-use Rattle.std.specs.Option.{option_map_or, option_or}
+use Rattle.std.specs.Prelude.{not, if◌then◌else◌, option_map, unwrap_or}
+use Rattle.std.specs.Option.{option_or}
 use Rattle.re_terms.specs.declared.command.Command.{Command}
 use Rattle.re_terms.specs.declared.command.Command.TheVariants as command
 use Rattle.re_terms.specs.declared.program.Program.{Program}

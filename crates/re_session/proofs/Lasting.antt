@@ -1,17 +1,16 @@
 -- What stays while bytes are read and a text is said.
-use Rattle.std.proofs.Common.{◌≡◌, ◌++◌, ◌∷◌, [], ℕ, List, ap, length, refl, subst, sym, true, ◌∙◌}
+use Rattle.std.proofs.Common.{◌≡◌, ◌++◌, ◌∷◌, [], ℕ, List, ap, length, subst, sym, true, ◌∙◌}
 use Rattle.std.proofs.lemmas.List.{append-nil}
 use Rattle.re_outside.proofs.Elsewhere.{kept_by_outputs}
 use Rattle.re_outside.specs.Moment.{IsKept}
 use Rattle.re_outside.specs.Outside.{Does, Faults, Seen}
 use Rattle.re_outside.specs.Port.{past_in}
-use Rattle.re_outside.specs.Trace.{IsCrashImageAt, Past, content_at, with_steps}
+use Rattle.re_outside.specs.Trace.{Past, content_at, with_steps}
 use Rattle.re_record.specs.Represents.{Represents}
 use Rattle.re_session.proofs.Acting.{line_goes, texts-append}
 use Rattle.re_session.specs.Acts.{Acts, DoneLine}
 use Rattle.re_session.specs.Begins.{Begins}
 use Rattle.re_session.specs.LineAnswers.{texts}
-use Rattle.re_terms.specs.Admission.{device_count}
 use Rattle.re_terms.specs.DeviceWorlds.{Outcome, World}
 use Rattle.re_terms.specs.Runs.{PlainState}
 use Rattle.re_terms.specs.Updates.{Update}

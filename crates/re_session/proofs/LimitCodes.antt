@@ -4,7 +4,7 @@ use Rattle.std.specs.Prelude.{if◌then◌else◌, ◌==◌, not, option_map, un
 use Rattle.std.specs.Option.{option_or}
 use Rattle.re_commands.specs.declared.fault.CommandFault.{CommandFault}
 use Rattle.re_commands.specs.declared.fault.CommandFault.TheVariants as fault
-use Rattle.re_session.proofs.Codes.{IsNoEntry, IsOtherCode, code_in, no_entry, other_code}
+use Rattle.re_session.proofs.Codes.{IsOtherCode, code_in, no_entry, other_code}
 use Rattle.re_session.specs.Histories.{IsEntry, MakesEntry}
 use Rattle.re_session.specs.LineAnswers.{Reading, fault_code, line_answer}
 use Rattle.re_terms.specs.DeviceWorlds.{World, Outcome, Fine, Memory, Failed, BadStore, OtherProgram, last_number, limit_fault, refused_where, reply, takes_no_more, taken}

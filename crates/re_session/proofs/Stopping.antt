@@ -1,5 +1,5 @@
 -- What a stop leaves at each moment of a session.
-use Rattle.std.proofs.Common.{◌≡◌, ◌≤◌, ◌++◌, ◌∷◌, [], ℕ, zero, suc, List, None, Ok, Option, Some, ap, append_assoc, arith, length, refl, subst, sym, take, true, ◌∙◌}
+use Rattle.std.proofs.Common.{◌≡◌, ◌++◌, ◌∷◌, [], ℕ, suc, List, None, Ok, Option, Some, ap, append_assoc, arith, length, refl, subst, sym, take, true, ◌∙◌}
 use Rattle.std.specs.Prelude.{slice_get}
 use Rattle.std.proofs.lemmas.List.{append-nil, append_cancel_left}
 use Rattle.re_commands.specs.Commanding.{commanded}

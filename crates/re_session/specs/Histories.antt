@@ -1,6 +1,6 @@
 -- The words of vars by the entries that set them, and the commands that make entries.
 -- Read against: on `device a; var x: int = 1;` after the entries x = 5, and one that sets nothing, x was set last to 5.
-use Rattle.std.specs.Prelude.{ℕ, ◌≡◌, ◌⊎◌, List, [], ◌∷◌, Option, Some, Ok, unwrap_or}
+use Rattle.std.specs.Prelude.{ℕ, ◌≡◌, List, [], ◌∷◌, Some, Ok, unwrap_or}
 use Rattle.re_session.specs.LineAnswers.{Reading}
 use Rattle.re_terms.specs.Entries.{PlainEntry, sets_of}
 use Rattle.re_terms.specs.Propagation.{put_word}

@@ -25,11 +25,10 @@ use Rattle.re_tool.specs.Lines.{split, ended}
 use Rattle.re_tool.specs.Part.{Part, divided, part_of, part_by, is_over}
 use Rattle.re_tool.specs.Reads.{limit}
 use Rattle.re_tool.specs.Session.{Closes, EndsAs, Finishes, Halts, HasSeparator, Refuses, Runs, is_output, one_if}
-use Rattle.re_outside.proofs.Does.{does-nil, breaks_does}
+use Rattle.re_outside.proofs.Does.{breaks_does}
 use Rattle.re_tool.proofs.Endings.{content_on}
 use Rattle.re_tool.proofs.Ends.{Ran, ran_breaks, ran_goes, ran_says}
 use Rattle.re_world.specs.Opening.{OpenBefore}
-use Rattle.re_session.specs.Serving.{Goes}
 use Rattle.re_session.proofs.Acting.{goes_nil}
 use Rattle.re_tool.specs.Verdict.{Verdict, Unknown, Rejected, Accepted, HasVerdict, Decides, IsJudged}
 

@@ -34,10 +34,9 @@ use Rattle.re_tool.specs.declared.status.Status.{Status}
 use Rattle.re_tool.specs.declared.status.Status.TheVariants as status
 use Rattle.re_tool.specs.declared.words.Job.{Job}
 use Rattle.re_tool.specs.declared.words.Job.TheVariants as job
-use Rattle.re_tool.proofs.Ends.{AnySteps, Ran, ran_breaks, ran_goes, ran_input, ran_says}
+use Rattle.re_tool.proofs.Ends.{ran_breaks, ran_goes, ran_input, ran_says}
 use Rattle.re_tool.proofs.Orders.{Reached, line_done, ordered_all, ordered_but_one}
 use Rattle.re_tool.proofs.Parts.{read_more, taken_more}
-use Rattle.re_tool.proofs.PassedLines.{does_more}
 use Rattle.re_tool.proofs.Sessions.{IsTold, Near, Ready, SoFar, goes_more, goes_read, judged_at, lines_in, outcomes_in, part_at, part_cut, part_last, reached_more, reached_read, reached_told, session_at, size_more, with_lines}
 use Rattle.re_tool.proofs.Splits.{split_lines, split_last}
 use Rattle.re_world.specs.Images.{OpensAfter}

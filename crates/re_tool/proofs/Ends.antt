@@ -1,7 +1,7 @@
 -- What a call that fails adds to what was done.
-use Rattle.std.proofs.Common.{arith, ◌≡◌, ◌++◌, [], ℕ, List, refl, Bool, true, false, ap, subst, ◌∙◌}
+use Rattle.std.proofs.Common.{arith, ◌≡◌, ◌++◌, [], ℕ, List, Bool, true, false, subst}
 use Rattle.std.proofs.lemmas.List.{append-nil}
-use Rattle.re_outside.specs.Outside.{Seen, FaultKind, Input, Output, Disk, Does, DoesWith, Fails, Faults, none, plus, input_fault, output_fault}
+use Rattle.re_outside.specs.Outside.{Seen, Input, Output, Does, DoesWith, Fails, Faults, none, plus, input_fault, output_fault}
 use Rattle.re_outside.specs.declared.step.Call.TheVariants as call
 use Rattle.re_outside.specs.declared.step.Step.{Step}
 use Rattle.re_outside.proofs.Does.{does_with-trans, fails_take}

@@ -1,5 +1,5 @@
 -- Why a program part is refused, from what refused it.
-use Rattle.std.proofs.Common.{◌≡◌, ◌≤◌, ◌∙◌, ℕ, List, length, sym, ap, subst, refl, Ok, Err, true, false, inl, inr}
+use Rattle.std.proofs.Common.{◌≡◌, ◌≤◌, ◌∙◌, ℕ, List, length, sym, ap, subst, refl, Ok, Err, true, false}
 use Rattle.std.specs.Prelude.{Result, nat_lt}
 use Rattle.re_terms.specs.declared.token.Token.{Token}
 use Rattle.re_terms.specs.declared.raw.Tree.{Tree}
@@ -19,7 +19,7 @@ use Rattle.re_tool.specs.declared.faults.Refusal.TheVariants as refusal
 use Rattle.re_tool.specs.declared.faults.ProgramFault.{ProgramFault}
 use Rattle.re_tool.specs.declared.faults.ProgramFault.TheVariants as program
 use Rattle.re_tool.specs.Faults.{lex_fault, syntax_fault, type_fault}
-use Rattle.re_tool.specs.Verdict.{Rejected, Accepted, HasTokens, HasTree, Judges, no_token, unexpected, too_deep, whole, HasVerdict, Decides, verdict_of}
+use Rattle.re_tool.specs.Verdict.{Rejected, Accepted, HasTokens, HasTree, Judges, no_token, unexpected, too_deep, whole, Decides, verdict_of}
 use Rattle.re_tool.proofs.Settling.{decided}
 
 same_refusal : (a b : Refusal) → program.Refused a ≡ program.Refused b → a ≡ b

@@ -1,5 +1,5 @@
 -- What the opening of all devices is to a run.
-use Rattle.std.proofs.Common.{[], ◌≡◌, ◌<◌, ℕ, Bool, Err, List, None, Ok, Option, Some, refl, subst, sym, true, ◌∙◌}
+use Rattle.std.proofs.Common.{[], ◌≡◌, ◌<◌, ℕ, Bool, Err, List, None, Ok, Some, refl, subst, sym, true, ◌∙◌}
 use Rattle.std.specs.Prelude.{◌≢◌, IfOk, OnOk, Result, ⊤}
 use Rattle.re_compact.specs.declared.fault.OpenFault.{OpenFault}
 use Rattle.re_compact.specs.declared.fault.OpenFault.TheVariants as unopened
@@ -19,7 +19,7 @@ use Rattle.re_terms.specs.Programs.{IsProgram}
 use Rattle.re_terms.specs.Runs.{PlainState}
 use Rattle.re_terms.specs.Updates.{Update}
 use Rattle.re_terms.specs.declared.program.Program.{Program}
-use Rattle.re_tool.specs.Acts.{FailsNone, FindsUnopened, IsOpening, IsWhy, OpensAs}
+use Rattle.re_tool.specs.Acts.{FailsNone, IsOpening, IsWhy, OpensAs}
 use Rattle.re_world.proofs.Opened.{same_refusal}
 use Rattle.re_world.proofs.OpeningSteps.{all_handed}
 use Rattle.re_world.specs.Images.{Restores}

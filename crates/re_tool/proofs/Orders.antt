@@ -1,11 +1,11 @@
 -- The steps of a session, one line more.
-use Rattle.std.proofs.Common.{◌≡◌, ◌++◌, ◌∷◌, [], ℕ, List, sym, subst, refl}
+use Rattle.std.proofs.Common.{◌++◌, ◌∷◌, [], ℕ, List, sym, refl}
 use Rattle.std.proofs.lemmas.List.{append-nil}
 use Rattle.re_outside.specs.Outside.{Seen, Does, none}
 use Rattle.re_session.specs.Acts.{Act, Acts, DoneLine}
-use Rattle.re_session.specs.Serving.{DoesLine, Serves, Whole, said_of}
+use Rattle.re_session.specs.Serving.{DoesLine, Serves, Whole}
 use Rattle.re_terms.specs.declared.program.Program.{Program}
-use Rattle.re_tool.specs.Acts.{DoesLast, OpensAs, Ordered}
+use Rattle.re_tool.specs.Acts.{OpensAs, Ordered}
 use Rattle.re_world.specs.State.{WorldState}
 
 -- what was done of a line

@@ -4,7 +4,6 @@ use Rattle.std.specs.Prelude.{map}
 use Rattle.std.specs.List.{flat_map}
 use Rattle.std.proofs.lemmas.Grind.{flat_map-append}
 use Rattle.std.proofs.lemmas.List.{append-nil, length-map, map-append}
-use Rattle.re_compact.specs.declared.fault.OpenFault.{OpenFault}
 use Rattle.re_outside.specs.Outside.{Seen, Does, IsAtEnd, none}
 use Rattle.re_outside.proofs.Does.{does-nil}
 use Rattle.re_session.specs.Acts.{DoneLine, said_by}
@@ -16,7 +15,7 @@ use Rattle.re_session.proofs.Lasting.{acts_told, begins_on, world_on}
 use Rattle.re_terms.specs.DeviceWorlds.{Outcome, World}
 use Rattle.re_terms.specs.declared.program.Program.{Program}
 use Rattle.re_tool.specs.Answers.{Outcomes, Session, answers_text, done, ending, session_in, session_of}
-use Rattle.re_tool.specs.Acts.{Course, OpensAs}
+use Rattle.re_tool.specs.Acts.{Course}
 use Rattle.re_tool.specs.Clipped.{Clipped}
 use Rattle.re_tool.specs.Endings.{Ending, InputFault, status_at}
 use Rattle.re_tool.specs.Lines.{split, ended, IsPlain, ArePlain, without_return}

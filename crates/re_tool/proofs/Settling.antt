@@ -1,6 +1,5 @@
 -- A program part has one verdict.
-use Rattle.std.proofs.Common.{arith, ◌≡◌, ℕ, List, sym, ◌∙◌, ap, subst, true, false}
-use Rattle.re_terms.specs.declared.program.Program.{Program}
+use Rattle.std.proofs.Common.{arith, ◌≡◌, ℕ, List, sym, ◌∙◌, ap, subst}
 use Rattle.re_terms.specs.declared.token.Token.{Token}
 use Rattle.re_terms.specs.declared.raw.RawDecl.{RawDecl}
 use Rattle.re_terms.specs.declared.raw.Tree.{Tree}
@@ -13,7 +12,6 @@ use Rattle.re_syntax.specs.declared.fault.SyntaxFault.{SyntaxFault}
 use Rattle.re_syntax.specs.declared.fault.SyntaxFault.TheVariants as fault
 use Rattle.re_syntax.proofs.OneAnswer.{no_other_tree, no_other_refusal, not_both}
 use Rattle.re_types.specs.Resolving.{resolved}
-use Rattle.re_tool.specs.declared.faults.Refusal.{Refusal}
 use Rattle.re_tool.specs.declared.faults.Refusal.TheVariants as refusal
 use Rattle.re_tool.specs.Verdict.{Verdict, Unknown, Rejected, Accepted, HasTokens, HasTree, Judges, too_long, no_token, unexpected, too_deep, whole, HasVerdict, Decides, verdict_of}
 

@@ -12,16 +12,16 @@ use Rattle.re_session.specs.Serving.{Goes}
 use Rattle.re_session.proofs.Acting.{does_goes, goes_on}
 use Rattle.re_terms.specs.DeviceWorlds.{Outcome, World}
 use Rattle.re_terms.specs.declared.program.Program.{Program}
-use Rattle.re_tool.specs.Acts.{Course, IsOpening, OpensAs, opens_none, reads}
-use Rattle.re_tool.specs.Answers.{Outcomes, Session, answers_text, checked_text, done, ending, ending_in, ending_with, first_lines, reading_end, session_in, session_of, session_text, unopened_end}
+use Rattle.re_tool.specs.Acts.{IsOpening, OpensAs, opens_none, reads}
+use Rattle.re_tool.specs.Answers.{Outcomes, Session, answers_text, checked_text, done, ending, ending_in, first_lines, reading_end, session_in, session_of, session_text, unopened_end}
 use Rattle.re_tool.specs.Clipped.{Clipped}
-use Rattle.re_tool.specs.Endings.{Ending, Done, RefusedProgram, InputFault, NoMemory, InputTooLong, status_at, last_line}
+use Rattle.re_tool.specs.Endings.{Done, RefusedProgram, InputFault, NoMemory, InputTooLong, status_at, last_line}
 use Rattle.re_tool.specs.Lines.{split, ended, without_return}
 use Rattle.re_tool.specs.Part.{Part, divided, part_of, part_in}
 use Rattle.re_tool.specs.PartReading.{Divides, ReadsAll, PartFails, PartTooLong, PartStops, PartIs}
 use Rattle.re_tool.specs.Reads.{limit}
 use Rattle.re_tool.specs.Serving.{Starts}
-use Rattle.re_tool.specs.Session.{FilesOpen, Finishes, HasSeparator, MayBegin, ReadFar, Runs, Unanswered, lines_of, part_lines}
+use Rattle.re_tool.specs.Session.{FilesOpen, Finishes, HasSeparator, ReadFar, Runs, Unanswered, lines_of}
 use Rattle.re_tool.specs.Verdict.{Verdict, Unknown, Rejected, Accepted, Decides, IsJudged}
 use Rattle.re_tool.specs.declared.faults.Refusal.{Refusal}
 use Rattle.re_tool.specs.declared.reader.Reader.{Reader}

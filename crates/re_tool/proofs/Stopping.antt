@@ -1,22 +1,21 @@
 -- What a stop leaves at each moment of a run.
-use Rattle.std.proofs.Common.{◌≡◌, ◌++◌, ◌∷◌, [], ◌⊎◌, ℕ, Bool, false, true, List, None, Option, Some, ap, inl, inr, refl, subst, sym, ◌∙◌}
+use Rattle.std.proofs.Common.{◌≡◌, ◌++◌, ◌∷◌, [], ℕ, Bool, false, true, List, None, Option, Some, ap, inl, inr, refl, subst, sym, ◌∙◌}
 use Rattle.std.specs.Prelude.{map}
 use Rattle.std.proofs.lemmas.List.{append-nil, map-append}
-use Rattle.re_commands.specs.Commanding.{commanded}
 use Rattle.re_compact.specs.declared.fault.OpenFault.{OpenFault}
 use Rattle.re_outside.proofs.Does.{breaks_does, fails_take, said-append}
 use Rattle.re_outside.proofs.Moments.{at_end, join, no_step, weaken}
 use Rattle.re_outside.specs.Moment.{IsKept, Throughout}
-use Rattle.re_outside.specs.Outside.{Breaks, Does, Faults, Seen, none, said}
+use Rattle.re_outside.specs.Outside.{Does, Faults, Seen, none, said}
 use Rattle.re_outside.specs.Port.{past_in}
-use Rattle.re_outside.specs.Trace.{IsCrashImageAt, IsJointImage, Past}
+use Rattle.re_outside.specs.Trace.{IsJointImage, Past}
 use Rattle.re_session.proofs.Acting.{acts_world, after-append, line_goes, line_world}
 use Rattle.re_session.proofs.Lasting.{acts_told, begins_on, world_on}
 use Rattle.re_session.proofs.Stopping.{While, images_were, moved, none_front, parts, rest_restores, said_on, said_parts, stop_here, stops_acts, stops_line, stops_reading, throughout_outputs}
-use Rattle.re_session.specs.Acts.{Acts, DoneLine}
+use Rattle.re_session.specs.Acts.{DoneLine}
 use Rattle.re_session.specs.Begins.{Begins}
-use Rattle.re_session.specs.LineAnswers.{line_after, lines_after}
-use Rattle.re_session.specs.Serving.{DoesLine, Goes}
+use Rattle.re_session.specs.LineAnswers.{lines_after}
+use Rattle.re_session.specs.Serving.{Goes}
 use Rattle.re_session.specs.Stops.{Stops, StopsAfter, world_of}
 use Rattle.re_terms.specs.DeviceWorlds.{World}
 use Rattle.re_terms.specs.Programs.{IsProgram}
@@ -25,7 +24,7 @@ use Rattle.re_tool.specs.Acts.{Course, DoesLast, IsOpening, Ordered, opens_none,
 use Rattle.re_tool.specs.Answers.{Session, done}
 use Rattle.re_tool.specs.Session.{Closes, Halts, Runs}
 use Rattle.re_tool.specs.Stops.{LeavesStart, LeavesWorld, Survives}
-use Rattle.re_tool.specs.Verdict.{Accepted, Verdict}
+use Rattle.re_tool.specs.Verdict.{Accepted}
 use Rattle.re_tool.specs.declared.status.Status.{Status}
 use Rattle.re_tool.specs.declared.status.Status.TheVariants as status
 use Rattle.re_tool.specs.declared.words.Job.{Job}

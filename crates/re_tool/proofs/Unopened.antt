@@ -1,5 +1,5 @@
 -- Exactly when a run ends for a device that doesn't open.
-use Rattle.std.proofs.Common.{arith, ◌≡◌, ◌<◌, ◌≤◌, ◌++◌, [], ℕ, List, length, take, sym, ◌∙◌, ap, subst, refl, Bool, true, Option, Some, None, ◌⊎◌, inl, inr}
+use Rattle.std.proofs.Common.{arith, ◌≡◌, ◌<◌, ◌++◌, [], ℕ, List, take, sym, ◌∙◌, ap, subst, refl, Bool, true, Option, Some, None, ◌⊎◌, inl, inr}
 use Rattle.std.specs.List.{flat_map}
 use Rattle.std.proofs.lemmas.Bool.{cases_lt}
 use Rattle.std.proofs.lemmas.List.{append_cancel_right}
@@ -11,19 +11,18 @@ use Rattle.re_record.proofs.OneStore.{one_stored}
 use Rattle.re_record.specs.Restoring.{Opened}
 use Rattle.re_record.specs.Stores as stores
 use Rattle.re_record.specs.Stores.{HasStore, OpensTo, Stored, opened}
-use Rattle.re_session.specs.Acts.{DoneLine}
 use Rattle.re_terms.specs.Admission.{device_count}
 use Rattle.re_terms.specs.Programs.{IsProgram}
 use Rattle.re_terms.specs.declared.program.Program.{Program}
 use Rattle.re_tool.specs.Acts.{Course, FailsNone, FindsUnopened, IsOpening, IsWhy, opens_none, reads, serves}
-use Rattle.re_tool.specs.Answers.{Outcomes, Session, done, done_by, ending, ending_in, ending_of, reading_end, session_in, unopened_end}
+use Rattle.re_tool.specs.Answers.{done, done_by, ending, ending_in, reading_end, session_in, unopened_end}
 use Rattle.re_tool.specs.Causes.{IsUnlessEnded, OpeningCause, store_status}
-use Rattle.re_tool.specs.Endings.{Ending, NoMemory, status_at}
+use Rattle.re_tool.specs.Endings.{NoMemory, status_at}
 use Rattle.re_tool.specs.Lines.{ended, split}
-use Rattle.re_tool.specs.Part.{Part, divided, is_over, part_by, part_of}
+use Rattle.re_tool.specs.Part.{Part, divided, part_of}
 use Rattle.re_tool.specs.Reads.{limit}
 use Rattle.re_tool.specs.Session.{Runs}
-use Rattle.re_tool.specs.Verdict.{Accepted, Decides, HasVerdict, IsJudged, Unknown, Verdict}
+use Rattle.re_tool.specs.Verdict.{Accepted, HasVerdict, IsJudged}
 use Rattle.re_tool.specs.declared.status.Status.{Status}
 use Rattle.re_tool.specs.declared.status.Status.TheVariants as status
 use Rattle.re_tool.specs.declared.words.Job.{Job}

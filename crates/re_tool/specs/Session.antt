@@ -15,7 +15,7 @@ use Rattle.re_tool.specs.Endings.{BadWords, Ending, InputFault, NoMemory, last_l
 use Rattle.re_tool.specs.Lines.{split}
 use Rattle.re_tool.specs.Part.{Part, divided, part_of}
 use Rattle.re_tool.specs.Reads.{limit}
-use Rattle.re_tool.specs.Verdict.{Accepted, IsJudged, Verdict}
+use Rattle.re_tool.specs.Verdict.{IsJudged, Verdict}
 use Rattle.re_tool.specs.declared.status.Status.{Status}
 use Rattle.re_tool.specs.declared.status.Status.TheVariants as status
 use Rattle.re_tool.specs.declared.words.Job.{Job}

@@ -1,6 +1,6 @@
 -- What a stop leaves of a run at any of its moments.
 -- Read against: on `device a; var x: int = 0;` with turn a x = 5, whatever a stop leaves of a's files while the program is read, while they are opened, or while their turn is committed, opens to no entry or, once its record may be whole, to one; behind ok 1 it opens to one.
-use Rattle.std.specs.Prelude.{◌≡◌, ◌⊎◌, ℕ, true, List, None, Option, Some}
+use Rattle.std.specs.Prelude.{◌≡◌, ◌⊎◌, ℕ, true, List, None, Some}
 use Rattle.re_compact.specs.declared.fault.OpenFault.{OpenFault}
 use Rattle.re_outside.specs.Moment.{Throughout}
 use Rattle.re_outside.specs.Outside.{Seen}

@@ -1,7 +1,7 @@
 -- What a program part is: a program that is accepted, or a text that is refused.
 -- Read against: `device a; var x: int = 1 $` is refused with `no token at 25`, `device a var` with `unexpected token at 9`, `device a; signal s = t;` with
 -- `declaration 2: unknown name`, and the empty text with `no device`; `device a; event e: int;` is accepted.
-use Rattle.std.specs.Prelude.{ℕ, ◌<◌, ◌≤◌, ◌≡◌, ◌⊎◌, List, length, nat_lt, Bool, true, false, Option, Some, None, Result, Ok, Err, if◌then◌else◌}
+use Rattle.std.specs.Prelude.{ℕ, ◌<◌, ◌≤◌, ◌≡◌, ◌⊎◌, List, length, nat_lt, Bool, true, Option, Some, None, Result, Ok, Err, if◌then◌else◌}
 use Rattle.re_terms.specs.declared.token.Token.{Token}
 use Rattle.re_terms.specs.declared.raw.Tree.{Tree}
 use Rattle.re_terms.specs.declared.program.Program.{Program}

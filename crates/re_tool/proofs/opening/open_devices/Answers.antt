@@ -1,4 +1,4 @@
-use Rattle.std.proofs.Common.{◌≡◌, ℕ, Bool, Err, List, None, Ok, subst, sym, true, ◌∙◌}
+use Rattle.std.proofs.Common.{ℕ, Bool, Err, Ok, subst, sym, ◌∙◌}
 use Rattle.std.specs.Prelude.{IfOk, Result}
 use Rattle.re_compact.specs.declared.fault.OpenFault.{OpenFault}
 use Rattle.re_outside.specs.Outside.{Seen}
