@@ -22,38 +22,36 @@ use Rattle.re_terms.proofs.Ordered.{inputs-before}
 use Rattle.re_graph.proofs.Own.{below-own, below-places}
 
 -- two lists of words agree at these names
-AgreeOn : (ℕ → Word) → (ℕ → Word) → List ℕ → Type 0
+abbrev pub AgreeOn : (ℕ → Word) → (ℕ → Word) → List ℕ → Type 0
 AgreeOn v w [] = Unit {0}
 AgreeOn v w (n ∷ names) = (v n ≡ w n) × AgreeOn v w names
 
+pub agree_names : (v w : ℕ → Word) (names : List ℕ) → AgreeOn v w names → AgreeOn v w names
+agree_names v w names h = h
+
 first_agree : (v w : ℕ → Word) (xs ys : List ℕ) → AgreeOn v w (xs ++ ys) → AgreeOn v w xs
-unfolding AgreeOn
 first_agree v w [] ys h = tt
 first_agree v w (x ∷ xs) ys h = (h.0, first_agree v w xs ys h.1)
 
 last_agree : (v w : ℕ → Word) (xs ys : List ℕ) → AgreeOn v w (xs ++ ys) → AgreeOn v w ys
-unfolding AgreeOn
 last_agree v w [] ys h = h
 last_agree v w (x ∷ xs) ys h = last_agree v w xs ys h.1
 
 head_agrees : (v w : ℕ → Word) (x : ℕ) (xs : List ℕ) → AgreeOn v w (x ∷ xs) → v x ≡ w x
-unfolding AgreeOn
 head_agrees v w x xs h = h.0
 
 tail_agrees : (v w : ℕ → Word) (x : ℕ) (xs : List ℕ) → AgreeOn v w (x ∷ xs) → AgreeOn v w xs
-unfolding AgreeOn
 tail_agrees v w x xs h = h.1
 
 agree_below : (v w : ℕ → Word) (id : ℕ) (names : List ℕ) → ((n : ℕ) → n < id → v n ≡ w n) → All (λ n. n < id) names → AgreeOn v w names
-unfolding AgreeOn
 agree_below v w id [] same h = tt
 agree_below v w id (n ∷ names) same h = (same n (All-head (λ n. n < id) n names h), agree_below v w id names same (All-tail (λ n. n < id) n names h))
 
 module _ (decls : List Decl) (view : View) (arg own : Option Word) (v w : ℕ → Word) where
-  abbrev over : (ℕ → Word) → Environment
+  abbrev pub over : (ℕ → Word) → Environment
   over words = names_environment decls view words arg own
 
-  abbrev Means : Expr → Type 0
+  abbrev pub Means : Expr → Type 0
   Means e = AgreeOn v w (expr_names e) → meaning e (over v) ≡ meaning e (over w)
 
   abbrev Part : Type 0
@@ -93,7 +91,7 @@ module _ (decls : List Decl) (view : View) (arg own : Option Word) (v w : ℕ �
       ap (λ (f : Environment → Word). f (over v)) (meaning_roll d) ∙ layer y (subst (AgreeOn v w) (names_roll d) h) ∙ sym (ap (λ (f : Environment → Word). f (over w)) (meaning_roll d))
 
   -- an expression means the same over words that agree at its names
-  meaning-agrees : (e : Expr) → Means e
+  pub meaning-agrees : (e : Expr) → Means e
   meaning-agrees = ind-Expr Means (λ x y is. subst (λ z. Means (roll-Expr z)) is (rolled y))
 
 -- a signal's word is its expression's over the words of all names

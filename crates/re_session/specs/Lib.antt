@@ -1,4 +1,5 @@
 pub mod Acts
+pub mod Agreement
 pub mod Begins
 pub mod Histories
 pub mod LineAnswers

@@ -1,10 +1,11 @@
 //! What follows from the definitions of the answers, for every program and every session.
-ghost use Rattle.std.specs.Prelude.{◌≡◌, ℕ, List, Option, [], ◌∷◌, ◌++◌, ◌≢◌, ◌↔◌, ◌≤◌, map, true, false, slice_get, slice_index_or, Ok, Err, Some, None};
+ghost use Rattle.std.specs.Prelude.{◌≡◌, ℕ, Bool, List, Option, [], ◌∷◌, ◌++◌, ◌≢◌, ◌↔◌, ◌≤◌, map, true, false, slice_get, slice_index_or, Ok, Err, Some, None};
 ghost use Rattle.re_commands.specs.Commanding.{commanded};
 ghost use Rattle.re_outside.specs.Moment.{Throughout};
 ghost use Rattle.re_outside.specs.Outside.{Seen};
 ghost use Rattle.re_outside.specs.Port.{past_in};
 ghost use Rattle.re_print.specs.Canonical.{word_text};
+ghost use Rattle.re_session.specs.Agreement.{AreReplicated};
 ghost use Rattle.re_session.specs.Acts.{Acts, DoneLine, said_by};
 ghost use Rattle.re_session.specs.Histories.{IsEntry, last_set};
 ghost use Rattle.re_session.specs.LineAnswers.{fault_code, line_answer, line_text, lines_after, texts};
@@ -18,6 +19,8 @@ ghost use Rattle.re_terms.specs.Programs.{IsProgram};
 ghost use Rattle.re_terms.specs.Runs.{plain_view};
 ghost use Rattle.re_terms.specs.Shapes.{shape_of};
 ghost use Rattle.re_terms.specs.SignalWords.{names_environment, no_word, signal_word};
+ghost use Rattle.re_terms.specs.UpdateSets.{SameUpdates};
+ghost use Rattle.re_terms.specs.Updates.{IsCausalLog, IsIn, Update};
 ghost use Rattle.re_terms.specs.Worlds.{Refused, limit_code};
 ghost use Rattle.re_terms.specs.declared.entry.Admitted.{Admitted};
 ghost use Rattle.re_terms.specs.declared.expr.Expr.{Expr};
@@ -98,4 +101,14 @@ pub fn limit_law()
         ↔ ((w.up device ≡ true) × (w.stop device ≡ None) × (takes_no_more w device ≡ false) × (updates_fault (shape_of p) device turn.turn.ops.items (taken w device) ≡ Some f)) }
     ensures only { (p : Program) (w : World) (line : List ℕ) (o : Outcome) (code : ℕ) → 29 ≤ code → code ≤ 32 →
         line_answer p w (commanded p line) o ≡ Some (Refused code) → IsEntry (commanded p line) }
+{}
+
+/// Two devices that are up and aren't stopped, and that took in the same updates of one causal log, say the same of each replicated cell,
+/// and of each signal that shows replicated cells alone.
+pub fn agree_law()
+    ensures { (p : Program) (w : World) (line other : List ℕ) (d e id : ℕ) (log : List Update) (among : ℕ → Bool) → IsProgram p →
+        commanded p line ≡ Ok (Some (Command.Get d id)) → commanded p other ≡ Ok (Some (Command.Get e id)) →
+        w.up d ≡ true → w.stop d ≡ None → w.up e ≡ true → w.stop e ≡ None →
+        IsCausalLog log → SameUpdates (device_state p w d).taken (device_state p w e).taken → ((u : Update) → IsIn u (device_state p w e).taken → IsIn u log) →
+        AreReplicated p among → among id ≡ true → line_text p w (commanded p line) Fine ≡ line_text p w (commanded p other) Fine }
 {}
