@@ -1,5 +1,5 @@
 -- Lines one behind the other, and the world that they lead to.
-use Rattle.std.proofs.Common.{arith, ℕ, ◌≡◌, ◌≢◌, ◌≤◌, ◌<◌, ◌+◌, ◌-◌, ◌^◌, ◌==◌, ◌⊎◌, zero, suc, min, List, [], ◌∷◌, ◌++◌, map, length, flat_map, Bool, true, false, Option, Some, None, Result, Ok, Err, if◌then◌else◌, refl, sym, ap, subst, ◌∙◌, inl, inr, append_assoc, true≢false}
+use Rattle.std.proofs.Common.{arith, ℕ, ◌≡◌, ◌≢◌, ◌+◌, ◌==◌, zero, suc, List, [], ◌∷◌, ◌++◌, map, length, Bool, true, false, Option, Some, None, Result, Ok, Err, if◌then◌else◌, refl, sym, ap, subst, ◌∙◌, inl, inr, append_assoc, true≢false}
 use Rattle.std.specs.Option.{option_map_or}
 use Rattle.std.proofs.lemmas.List.{append-nil}
 use Rattle.std.proofs.lemmas.Bool.Decides.{nat_tests}
@@ -12,15 +12,15 @@ use Rattle.re_device.specs.Device.{DeviceState}
 use Rattle.re_outside.proofs.Does.{does_with-nil, does_with-trans, does_with_as}
 use Rattle.re_outside.proofs.Elsewhere.{kept_by_outputs}
 use Rattle.re_outside.specs.Moment.{IsKept}
-use Rattle.re_outside.specs.Outside.{AreOutputs, Counts, Disk, Does, DoesWith, FaultKind, Faults, Input, Output, Rose, Seen, disk_fault, is_kind, none}
+use Rattle.re_outside.specs.Outside.{AreOutputs, Counts, Disk, Does, FaultKind, Faults, Input, Output, Rose, Seen, disk_fault, none}
 use Rattle.re_outside.specs.Port.{disk_faults, other_faults, past_in}
 use Rattle.re_outside.specs.Trace.{Past, as_device, with_steps}
 use Rattle.re_outside.specs.declared.step.Step.{Step}
-use Rattle.re_restore.specs.Opening.{StopsIn, start_steps}
+use Rattle.re_restore.specs.Opening.{start_steps}
 use Rattle.re_session.proofs.Plans.{open_changes, settling_changes, start_changes}
 use Rattle.re_session.proofs.Quiet.{Adds, AddsTo, AreChanges, AreQuiet, adds_behind, adds_none, adds_steps, changes_append, changes_quiet, journal_adds, quiet_append, quiet_nil, reading_adds, stops_adds}
 use Rattle.re_session.specs.Acts.{Act, Acts, DoneLine, said_by}
-use Rattle.re_session.specs.LineAnswers.{fault_code, first, line_after, line_text, lines_after, others, said_answer, texts}
+use Rattle.re_session.specs.LineAnswers.{fault_code, line_after, line_text, lines_after, others, said_answer, texts}
 use Rattle.re_session.specs.Serving.{DoesAsked, DoesLine, Goes, asks, finds_no_memory, holds_none, is_faulty, said_of}
 use Rattle.re_terms.specs.Admission.{device_count}
 use Rattle.re_terms.specs.DeviceWorlds.{Fine, Memory, Outcome, World, device_of, is_refusal, refusal, reply, world_after}
@@ -32,11 +32,11 @@ use Rattle.re_terms.specs.declared.command.Command.TheVariants as command
 use Rattle.re_terms.specs.declared.entry.Logged.{Logged}
 use Rattle.re_terms.specs.declared.program.Program.{Program}
 use Rattle.re_world.proofs.Stepped.{world_kept}
-use Rattle.re_world.specs.FileSteps.{Commit, CommitsBy, HasFileSteps, MakesAll, Opens, RestartsFrom, StopsWithin, is_disk_refusal, restarted_as, steps_of}
-use Rattle.re_world.specs.Opening.{HasAllOpeningSteps, HasNextSteps, HasOpeningSteps, RanOutBefore, after_opening, opening_steps, steps_before}
+use Rattle.re_world.specs.FileSteps.{CommitsBy, HasFileSteps, RestartsFrom, is_disk_refusal, restarted_as, steps_of}
+use Rattle.re_world.specs.Opening.{HasAllOpeningSteps, HasNextSteps, HasOpeningSteps, after_opening, opening_steps, steps_before}
 use Rattle.re_world.specs.Standing.{IsWorldOf}
 use Rattle.re_world.specs.State.{WorldState, device_in}
-use Rattle.re_world.specs.Stepping.{CountsBy, CountsIf, DoesCommand, HasStepped, NoneRose, OwnRose}
+use Rattle.re_world.specs.Stepping.{CountsIf, DoesCommand}
 
 -- ---- parts of a session
 

@@ -1,4 +1,11 @@
 pub mod Acting
+pub mod Answering
+pub mod Codes
+pub mod Lasting
+pub mod LimitCodes
+pub mod Meanings
+pub mod NeverMemory
 pub mod Plans
 pub mod Quiet
-pub mod Lasting
+pub mod Refusals
+pub mod VarWords

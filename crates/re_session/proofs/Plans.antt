@@ -1,5 +1,5 @@
 -- The steps by which a device commits and by which its files are opened are changes of its files.
-use Rattle.std.proofs.Common.{◌≡◌, ℕ, List, [], ◌∷◌, ◌++◌, Bool, true, false, Option, Some, None, if◌then◌else◌, length, refl}
+use Rattle.std.proofs.Common.{ℕ, List, [], ◌++◌, Bool, true, false, Option, Some, None, if◌then◌else◌, length, refl}
 use Rattle.std.specs.Prelude.{◌&&◌, option_map}
 use Rattle.re_compact.specs.Committing.{committing_steps}
 use Rattle.re_compact.specs.Finding.{open_steps}

@@ -1,11 +1,11 @@
 -- Steps on files: they say nothing, and of those of one part at most the last fails.
-use Rattle.std.proofs.Common.{arith, ℕ, ◌≡◌, ◌≤◌, ◌+◌, ◌⊎◌, List, [], ◌∷◌, ◌++◌, Bool, true, false, Option, Some, None, if◌then◌else◌, refl, sym, ap, subst, ◌∙◌, inl, inr, append_assoc}
+use Rattle.std.proofs.Common.{arith, ℕ, ◌≡◌, ◌≤◌, ◌+◌, List, [], ◌∷◌, ◌++◌, Option, Some, None, refl, sym, ap, ◌∙◌, inl, inr, append_assoc}
 use Rattle.std.proofs.lemmas.List.{append-nil}
 use Rattle.re_outside.proofs.Does.{failures-append, said-append}
 use Rattle.re_outside.specs.Image.{IsUnchanged}
 use Rattle.re_outside.specs.Listed.{plain}
 use Rattle.re_outside.specs.Outside.{FaultKind, Faults, disk_fault, failures, none, said}
-use Rattle.re_outside.specs.Plan.{CutAt, FailsAt, FailsTo, FileChange, StopsAt, WriteAt, failure_of, left_by, synced_steps}
+use Rattle.re_outside.specs.Plan.{CutAt, FailsAt, FailsTo, FileChange, StopsAt, WriteAt, failure_of, synced_steps}
 use Rattle.re_outside.specs.Trace.{Past, with_steps}
 use Rattle.re_outside.specs.declared.step.Call.{Call}
 use Rattle.re_outside.specs.declared.step.Call.TheVariants as calls

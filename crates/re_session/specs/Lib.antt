@@ -1,4 +1,5 @@
 pub mod Acts
 pub mod Begins
+pub mod Histories
 pub mod LineAnswers
 pub mod Serving

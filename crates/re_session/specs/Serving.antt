@@ -3,7 +3,7 @@
 use Rattle.std.specs.Prelude.{◌≡◌, ◌≢◌, ℕ, List, [], true, Option, Some, None, Result, Ok, Err, ⊤}
 use Rattle.re_commands.specs.Commanding.{commanded}
 use Rattle.re_commands.specs.declared.fault.CommandFault.{CommandFault}
-use Rattle.re_outside.specs.Outside.{Breaks, DoesWith, Does, FaultKind, Faults, Input, Output, Seen, content_in, none}
+use Rattle.re_outside.specs.Outside.{Breaks, DoesWith, Does, Faults, Input, Output, Seen, content_in, none}
 use Rattle.re_outside.specs.declared.step.Step.{Step}
 use Rattle.re_record.specs.Stores.{HasStore, Stored}
 use Rattle.re_session.specs.LineAnswers.{fault_code, said_answer}

@@ -5,7 +5,7 @@ use Rattle.std.specs.List.{flat_map}
 use Rattle.std.proofs.lemmas.Bool.{lt-ltb, le-ltb, ltb-true}
 use Rattle.std.proofs.lemmas.List.{append_cancel_right}
 use Rattle.re_compact.specs.declared.fault.OpenFault.{OpenFault}
-use Rattle.re_compact.specs.declared.fault.OpenFault.TheVariants as open
+use Rattle.re_compact.specs.declared.fault.OpenFault.TheVariants as unopened
 use Rattle.re_outside.specs.Outside.{Breaks, Counts, Disk, Does, Input, IsAtEnd, Output, Rose, Seen, content_in, none}
 use Rattle.re_outside.specs.Port.{disk_faults}
 use Rattle.re_record.specs.Stores as stores
@@ -82,10 +82,10 @@ abbrev IsOfOpening : Status → Type 0
 IsOfOpening s = (s ≡ status.Memory) ⊎ ((s ≡ status.Disk) ⊎ ((s ≡ status.Store) ⊎ (s ≡ status.OtherProgram)))
 
 unopened_status : (p : Program) (u : ℕ × OpenFault) → IsOfOpening (status_at (unopened_end p u))
-unopened_status p (d, open.Memory) = inl refl
-unopened_status p (d, open.Disk) = inr (inl refl)
-unopened_status p (d, open.BadStore file at) = inr (inr (inl refl))
-unopened_status p (d, open.OtherProgram) = inr (inr (inr refl))
+unopened_status p (d, unopened.Memory) = inl refl
+unopened_status p (d, unopened.Disk) = inr (inl refl)
+unopened_status p (d, unopened.BadStore file at) = inr (inr (inl refl))
+unopened_status p (d, unopened.OtherProgram) = inr (inr (inr refl))
 
 with_verdict : (v : Verdict) (u : Option (ℕ × OpenFault)) (s : Ending) (r : Status) → status_at (ending_with v u s) ≡ r → (r ≡ status.Program → ⊥) → (IsOfOpening r → ⊥) → status_at s ≡ r
 with_verdict Unknown u s r h n o = h
@@ -243,10 +243,10 @@ pub record IsRefusedIn (v : Verdict) (read : List ℕ) (failed : Bool) : Type 0 
   pub refused : HasVerdict part.text (Rejected why)
 
 unopened_program : (p : Program) (u : ℕ × OpenFault) → status_at (unopened_end p u) ≡ status.Program → ⊥
-unopened_program p (d, open.Memory) h = cc
-unopened_program p (d, open.Disk) h = cc
-unopened_program p (d, open.BadStore file at) h = cc
-unopened_program p (d, open.OtherProgram) h = cc
+unopened_program p (d, unopened.Memory) h = cc
+unopened_program p (d, unopened.Disk) h = cc
+unopened_program p (d, unopened.BadStore file at) h = cc
+unopened_program p (d, unopened.OtherProgram) h = cc
 
 refused_with : (v : Verdict) (u : Option (ℕ × OpenFault)) (read : List ℕ) (failed : Bool) (part : Part) (s : Ending) (stopped : Option (ℕ × Bool)) → part_of read failed ≡ Some part → IsJudged v (Some part) stopped → status_at (ending_with v u s) ≡ status.Program → (status_at s ≡ status.Program → ⊥) → IsRefusedIn v read failed
 refused_with Unknown u read failed part s stopped is q h n = absurd (n h)
@@ -369,12 +369,12 @@ pub record IsRefusedOpening (j : Job) (v : Verdict) (u : Option (ℕ × OpenFaul
   pub opening : IsOpening program (Some fault) part_read b
 
 refused_opening : (j : Job) (v : Verdict) (u : Option (ℕ × OpenFault)) (session : Option Session) (lines unanswered : List DoneLine) (a b : Seen) → Course j v u session lines unanswered a b → (u ≡ None) ⊎ IsRefusedOpening j v u a b
-refused_opening j v u session lines unanswered a b (reads none opens did un does) = inl opens
-refused_opening j v u session lines unanswered a b (opens_none {p} {f} {read} {m} run accepted is none did un does opening) = inr (record { program = p; fault = f; accepted = accepted; is = is; read = read; part_read = m; reads_part = does; opening = opening })
-refused_opening j v u session lines unanswered a b (serves run accepted none is spelled ordered) = inl none
+refused_opening j v u session lines unanswered a b (reads lacks opens did un does) = inl opens
+refused_opening j v u session lines unanswered a b (opens_none {p} {u = f} {read} {part_read = m} run accepted is lacks did un does opening) = inr (record { program = p; fault = f; accepted = accepted; is = is; read = read; part_read = m; reads_part = does; opening = opening })
+refused_opening j v u session lines unanswered a b (serves run accepted opens is spelled ordered) = inl opens
 
 -- such a status comes of a device that doesn't open alone
-IsOfStore : Status → Type 0
+abbrev IsOfStore : Status → Type 0
 IsOfStore s = (s ≡ status.Disk) ⊎ ((s ≡ status.Store) ⊎ (s ≡ status.OtherProgram))
 
 not_store : (r s : Status) → IsOfStore s → r ≡ s → (r ≡ status.Disk → ⊥) → (r ≡ status.Store → ⊥) → (r ≡ status.OtherProgram → ⊥) → ⊥
@@ -503,16 +503,16 @@ module _ (j : Job) (a b : Seen) (s : Status) (r : Runs j a b s) (h : IsOfStore s
   told_here t = refused_here.0.reads_part.moves.told ∙ t
 
   find_bad : a.told ≡ true → s ≡ status.Store → (u : ℕ × OpenFault) → refused_here.0.fault ≡ u → FindsUnopened refused_here.0.program (Some u) refused_here.0.part_read r.calm → (p : Program) × (d : ℕ) × (file : ℕ) × (at : ℕ) × FindsStore a b p d (stores.Bad file at)
-  find_bad t is (d, open.BadStore file at) e f = (refused_here.0.program, (d, (file, (at, finds_store t d (stores.Bad file at) f.0 f.1))))
-  find_bad t is (d, open.Memory) e f = let no : status.Memory ≡ status.Store = sym (ap (λ x. status_at (unopened_end refused_here.0.program x)) e) ∙ refused_here.1 ∙ is in absurd (cc)
-  find_bad t is (d, open.Disk) e f = let no : status.Disk ≡ status.Store = sym (ap (λ x. status_at (unopened_end refused_here.0.program x)) e) ∙ refused_here.1 ∙ is in absurd (cc)
-  find_bad t is (d, open.OtherProgram) e f = let no : status.OtherProgram ≡ status.Store = sym (ap (λ x. status_at (unopened_end refused_here.0.program x)) e) ∙ refused_here.1 ∙ is in absurd (cc)
+  find_bad t is (d, unopened.BadStore file at) e f = (refused_here.0.program, d, file, at, finds_store t d (stores.Bad file at) f.0 f.1)
+  find_bad t is (d, unopened.Memory) e f = let no : status.Memory ≡ status.Store = sym (ap (λ x. status_at (unopened_end refused_here.0.program x)) e) ∙ refused_here.1 ∙ is in absurd (cc)
+  find_bad t is (d, unopened.Disk) e f = let no : status.Disk ≡ status.Store = sym (ap (λ x. status_at (unopened_end refused_here.0.program x)) e) ∙ refused_here.1 ∙ is in absurd (cc)
+  find_bad t is (d, unopened.OtherProgram) e f = let no : status.OtherProgram ≡ status.Store = sym (ap (λ x. status_at (unopened_end refused_here.0.program x)) e) ∙ refused_here.1 ∙ is in absurd (cc)
 
   find_other : a.told ≡ true → s ≡ status.OtherProgram → (u : ℕ × OpenFault) → refused_here.0.fault ≡ u → FindsUnopened refused_here.0.program (Some u) refused_here.0.part_read r.calm → (p : Program) × (d : ℕ) × FindsStore a b p d stores.OtherProgram
-  find_other t is (d, open.OtherProgram) e f = (refused_here.0.program, (d, finds_store t d stores.OtherProgram f.0 f.1))
-  find_other t is (d, open.Memory) e f = let no : status.Memory ≡ status.OtherProgram = sym (ap (λ x. status_at (unopened_end refused_here.0.program x)) e) ∙ refused_here.1 ∙ is in absurd (cc)
-  find_other t is (d, open.Disk) e f = let no : status.Disk ≡ status.OtherProgram = sym (ap (λ x. status_at (unopened_end refused_here.0.program x)) e) ∙ refused_here.1 ∙ is in absurd (cc)
-  find_other t is (d, open.BadStore file at) e f = let no : status.Store ≡ status.OtherProgram = sym (ap (λ x. status_at (unopened_end refused_here.0.program x)) e) ∙ refused_here.1 ∙ is in absurd (cc)
+  find_other t is (d, unopened.OtherProgram) e f = (refused_here.0.program, d, finds_store t d stores.OtherProgram f.0 f.1)
+  find_other t is (d, unopened.Memory) e f = let no : status.Memory ≡ status.OtherProgram = sym (ap (λ x. status_at (unopened_end refused_here.0.program x)) e) ∙ refused_here.1 ∙ is in absurd (cc)
+  find_other t is (d, unopened.Disk) e f = let no : status.Disk ≡ status.OtherProgram = sym (ap (λ x. status_at (unopened_end refused_here.0.program x)) e) ∙ refused_here.1 ∙ is in absurd (cc)
+  find_other t is (d, unopened.BadStore file at) e f = let no : status.Store ≡ status.OtherProgram = sym (ap (λ x. status_at (unopened_end refused_here.0.program x)) e) ∙ refused_here.1 ∙ is in absurd (cc)
 
   rose_here : (d : ℕ) → Rose (disk_faults d refused_here.0.part_read) (disk_faults d r.calm) → Rose (disk_faults d a) (disk_faults d b)
   rose_here d rose =
@@ -521,10 +521,10 @@ module _ (j : Job) (a b : Seen) (s : Status) (r : Runs j a b s) (h : IsOfStore s
       subst (λ x. Rose x (disk_faults d b)) first (subst (λ x. Rose (disk_faults d refused_here.0.part_read) x) (sym last) rose)
 
   find_disk : s ≡ status.Disk → (u : ℕ × OpenFault) → refused_here.0.fault ≡ u → FailsNone (Some u) refused_here.0.part_read r.calm → (d : ℕ) × Rose (disk_faults d a) (disk_faults d b)
-  find_disk is (d, open.Disk) e f = (d, rose_here d f)
-  find_disk is (d, open.Memory) e f = let no : status.Memory ≡ status.Disk = sym (ap (λ x. status_at (unopened_end refused_here.0.program x)) e) ∙ refused_here.1 ∙ is in absurd (cc)
-  find_disk is (d, open.BadStore file at) e f = let no : status.Store ≡ status.Disk = sym (ap (λ x. status_at (unopened_end refused_here.0.program x)) e) ∙ refused_here.1 ∙ is in absurd (cc)
-  find_disk is (d, open.OtherProgram) e f = let no : status.OtherProgram ≡ status.Disk = sym (ap (λ x. status_at (unopened_end refused_here.0.program x)) e) ∙ refused_here.1 ∙ is in absurd (cc)
+  find_disk is (d, unopened.Disk) e f = (d, rose_here d f)
+  find_disk is (d, unopened.Memory) e f = let no : status.Memory ≡ status.Disk = sym (ap (λ x. status_at (unopened_end refused_here.0.program x)) e) ∙ refused_here.1 ∙ is in absurd (cc)
+  find_disk is (d, unopened.BadStore file at) e f = let no : status.Store ≡ status.Disk = sym (ap (λ x. status_at (unopened_end refused_here.0.program x)) e) ∙ refused_here.1 ∙ is in absurd (cc)
+  find_disk is (d, unopened.OtherProgram) e f = let no : status.OtherProgram ≡ status.Disk = sym (ap (λ x. status_at (unopened_end refused_here.0.program x)) e) ∙ refused_here.1 ∙ is in absurd (cc)
 
   pub bad_found : a.told ≡ true → s ≡ status.Store → (p : Program) × (d : ℕ) × (file : ℕ) × (at : ℕ) × FindsStore a b p d (stores.Bad file at)
   bad_found t is = find_bad t is refused_here.0.fault refl (refused_here.0.opening.finds (told_here t))
@@ -669,7 +669,7 @@ completes j a b status.Input r u = absurd (u.quiet Input (at_input j a b r))
 completes j a b status.Output r u = absurd (u.quiet Output (output_cause j a b status.Output r))
 completes j a b status.TooLong r u = absurd (u.few (at_too_long j a b r u.told))
 completes j a b status.Words r u = absurd (run_words j a b r)
-completes j a b status.Store r u = let f = (opening_cause j a b status.Store r).bad u.told refl in absurd (u.stores f.0 f.1 f.2 f.3 f.4)
-completes j a b status.OtherProgram r u = let f = (opening_cause j a b status.OtherProgram r).other u.told refl in absurd (u.own f.0 f.1 f.2)
+completes j a b status.Store r u = let f = (opening_cause j a b status.Store r).bad u.told refl in absurd (u.bad f.0 f.1 f.2 f.3 f.4)
+completes j a b status.OtherProgram r u = let f = (opening_cause j a b status.OtherProgram r).other u.told refl in absurd (u.others f.0 f.1 f.2)
 completes j a b status.Disk r u = let f = (opening_cause j a b status.Disk r).disk refl in absurd (u.quiet (Disk f.0) (counts_rose _ _ f.1))
 completes j a b status.Line r u = absurd (run_line j a b r)

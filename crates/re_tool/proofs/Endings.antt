@@ -38,7 +38,7 @@ use Rattle.re_tool.proofs.Ends.{AnySteps, Ran, ran_breaks, ran_goes, ran_input, 
 use Rattle.re_tool.proofs.Orders.{Reached, line_done, ordered_all, ordered_but_one}
 use Rattle.re_tool.proofs.Parts.{read_more, taken_more}
 use Rattle.re_tool.proofs.PassedLines.{does_more}
-use Rattle.re_tool.proofs.Sessions.{IsTold, Near, Ready, SoFar, goes_more, goes_read, judged_at, lines_in, outcomes_in, part_at, part_cut, part_last, reached_more, reached_read, reached_told, said_more, session_at, size_more, with_lines}
+use Rattle.re_tool.proofs.Sessions.{IsTold, Near, Ready, SoFar, goes_more, goes_read, judged_at, lines_in, outcomes_in, part_at, part_cut, part_last, reached_more, reached_read, reached_told, session_at, size_more, with_lines}
 use Rattle.re_tool.proofs.Splits.{split_lines, split_last}
 use Rattle.re_world.specs.Images.{OpensAfter}
 use Rattle.re_world.specs.Standing.{IsWorldOf}
@@ -107,8 +107,8 @@ begins_in p start lines session a is h = subst (λ x. MayBegin start x a) is h
 -- what the files of a world open to
 files_open : (p : Program) (w : World) (v : WorldState) (s : Seen) (start : Program → World) (lines : List (List ℕ)) (os : List Outcome) (session : Option Session) → session ≡ with_lines p lines → w ≡ lines_after p (start p) lines os → IsWorldOf p w v s → FilesOpen start session os s
 files_open p w v s start lines os session is world h =
-    let open : FilesOpen start (with_lines p lines) os s = λ d below. (subst (λ x. IsWorldOf p x v s) world h).files d below.reads in
-    subst (λ x. FilesOpen start x os s) (sym is) open
+    let opens : FilesOpen start (with_lines p lines) os s = λ d below. ((subst (λ x. IsWorldOf p x v s) world h).files d below).reads in
+    subst (λ x. FilesOpen start x os s) (sym is) opens
 
 module _ (a b : Seen) (p : Program) (did : List DoneLine) (now : WorldState) (r : Reached a b p did now) (session : Option Session) (is : session ≡ with_lines p (lines_in did)) (start : Program → World) (h : MayBegin start session a) where
   pub told_all : IsTold p did now (start p) b
@@ -135,7 +135,7 @@ module _ (a b c : Seen) (p : Program) (did : List DoneLine) (l : DoneLine) (now 
   course_but_one session is = serves refl refl refl is (sym (lines_more did l)) (ordered_but_one a b c p did l now after r d)
 
   module _ (start : Program → World) (begins : Begins p (start p) a) where
-    world_before : World
+    abbrev world_before : World
     world_before = lines_after p (start p) (lines_in did) (outcomes_in did)
 
     told_before : IsTold p did now (start p) b
@@ -324,7 +324,7 @@ module _ (a c e : Seen) (p : Program) (now after : WorldState) (line : List ℕ)
         verdict = Accepted p;
         judged = q.judged (Some (length (lines_in q.did) + 1, false));
         text = said_by p q.did;
-        ran = ran_goes a e q.read _ (goes_well a c e q.read (said_by p q.did) [] q.goes goes);
+        ran = ran_goes a e q.read _ (subst (Goes a e q.read) (append-nil (said_by p q.did)) (goes_well a c e q.read (said_by p q.did) [] q.goes goes));
         lines = q.did ++ l ∷ [];
         fared = refl;
         unanswered = l ∷ [];
@@ -348,7 +348,7 @@ module _ (a c e : Seen) (p : Program) (now after : WorldState) (line : List ℕ)
       let d = t.told in
       let broken = breaks_does t.done e (said_of p t.answer) none d in
       let goes = line_goes p line now after t.answer t.outcome c t.done t.does in
-      let ran = ran_breaks a t.done e q.read (said_by p q.did) d.front false (ran_goes a t.done q.read _ (goes_well a c t.done q.read (said_by p q.did) [] q.goes goes)) broken in
+      let ran = ran_breaks a t.done e q.read (said_by p q.did) d.front false (ran_goes a t.done q.read _ (subst (Goes a t.done q.read) (append-nil (said_by p q.did)) (goes_well a c t.done q.read (said_by p q.did) [] q.goes goes))) broken in
       record {
         read = q.read;
         few = omega (arith, q.few);

@@ -5,6 +5,7 @@ pub mod Endings
 pub mod Ends
 pub mod Failing
 pub mod Judging
+pub mod Opened
 pub mod Orders
 pub mod Parts
 pub mod PassedLines
@@ -13,3 +14,4 @@ pub mod Serves
 pub mod Sessions
 pub mod Splits
 pub mod Starting
+pub mod Settling

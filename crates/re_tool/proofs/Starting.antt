@@ -4,7 +4,7 @@ use Rattle.std.specs.Prelude.{map}
 use Rattle.std.specs.List.{flat_map}
 use Rattle.std.proofs.lemmas.List.{length-append, append-nil}
 use Rattle.re_compact.specs.declared.fault.OpenFault.{OpenFault}
-use Rattle.re_compact.specs.declared.fault.OpenFault.TheVariants as open
+use Rattle.re_compact.specs.declared.fault.OpenFault.TheVariants as unopened
 use Rattle.re_outside.specs.Outside.{Seen, Does, Breaks, IsAtEnd, none}
 use Rattle.re_outside.proofs.Does.{breaks_does, does-nil}
 use Rattle.re_print.specs.Canonical.{program_text}
@@ -289,16 +289,16 @@ opening_goes a b c read d g = subst (λ x. Goes a c x []) (append-nil read) (goe
 
 -- how far the input was read where a device doesn't open
 unopened_far : (p : Program) (u : ℕ × OpenFault) (read : List ℕ) (o : Outcomes) (c : Seen) → length (lines_of (done job.Run (Accepted p) read o)) ≤ 0 → length read ≤ limit → HasSeparator read ⊎ IsAtEnd c → ReadFar job.Run (status_at (unopened_end p u)) (Accepted p) read o c
-unopened_far p (d, open.Memory) read o c none few far = inl (omega arith)
-unopened_far p (d, open.Disk) read o c none few far = (few, far)
-unopened_far p (d, open.BadStore file at) read o c none few far = (few, far)
-unopened_far p (d, open.OtherProgram) read o c none few far = (few, far)
+unopened_far p (d, unopened.Memory) read o c none few far = inl (omega arith)
+unopened_far p (d, unopened.Disk) read o c none few far = (few, far)
+unopened_far p (d, unopened.BadStore file at) read o c none few far = (few, far)
+unopened_far p (d, unopened.OtherProgram) read o c none few far = (few, far)
 
 unopened_unsaid : (p : Program) (u : ℕ × OpenFault) → Unanswered (status_at (unopened_end p u)) []
-unopened_unsaid p (d, open.Memory) = omega arith
-unopened_unsaid p (d, open.Disk) = refl
-unopened_unsaid p (d, open.BadStore file at) = refl
-unopened_unsaid p (d, open.OtherProgram) = refl
+unopened_unsaid p (d, unopened.Memory) = omega arith
+unopened_unsaid p (d, unopened.Disk) = refl
+unopened_unsaid p (d, unopened.BadStore file at) = refl
+unopened_unsaid p (d, unopened.OtherProgram) = refl
 
 module _ (a b c : Seen) (p : Program) (u : ℕ × OpenFault) (w : IsWhole a b (Accepted p)) (o : IsOpening p (Some u) b c) where
   pub near_unopened : Near job.Run a c (unopened_end p u)
@@ -494,3 +494,14 @@ part_is_divided a b r text d e h = subst (λ x. PartIs r text x a b) e h
 
 pub part_is_all : (a b : Seen) (r : Reader) (text : Clipped) (d : Bool) → d ≡ false → PartIs r text d a b → ReadsAll r text a b
 part_is_all a b r text d e h = subst (λ x. PartIs r text x a b) e h
+
+-- the devices of the program that was read are opened, and its session begins
+pub starts_with : (a b c : Seen) (r : Reader) (text : Clipped) (p q : Program) (devices : WorldState) → Divides r text a b → Decides text.items (Accepted p) → q ≡ p → OpensAs q devices b c → Starts a c devices.program r devices
+starts_with a b c r text p q devices d is same opens =
+    subst (λ x. Starts a c x r devices) (sym opens.program) (divided_starts a b r text d c q devices (subst (λ x. Decides text.items (Accepted x)) (sym same) is) opens)
+
+pub unopened_output : (p : Program) (u : ℕ × OpenFault) → status_at (unopened_end p u) ≡ status.Output → ⊥
+unopened_output p (d, unopened.Memory) h = cc
+unopened_output p (d, unopened.Disk) h = cc
+unopened_output p (d, unopened.BadStore file at) h = cc
+unopened_output p (d, unopened.OtherProgram) h = cc

@@ -2,7 +2,7 @@
 -- Read against: over blank files `device a; var x: int = 0;` with turn a x = 5 makes two syncs, lays the start, commits the turn, and then says ok 1.
 use Rattle.std.specs.Prelude.{ℕ, ◌≡◌, ◌<◌, ◌++◌, List, [], ◌∷◌, true, map, Option, Some, None, Result, Ok, Err, ⊤}
 use Rattle.re_compact.specs.declared.fault.OpenFault.{OpenFault}
-use Rattle.re_compact.specs.declared.fault.OpenFault.TheVariants as open
+use Rattle.re_compact.specs.declared.fault.OpenFault.TheVariants as unopened
 use Rattle.re_device.specs.Device.{DeviceState}
 use Rattle.re_outside.specs.Moment.{Throughout}
 use Rattle.re_outside.specs.Outside.{Does, Rose, Seen, content_in, none}
@@ -29,10 +29,10 @@ use Rattle.re_world.specs.State.{WorldState, device_in}
 
 -- why the first device that doesn't open is refused: for what its files read as, or since its disk failed
 abbrev pub IsWhy : Program → ℕ → OpenFault → Seen → Seen → Type 0
-IsWhy p d open.Memory old new = Unit {0}
-IsWhy p d open.Disk old new = Rose (disk_faults d old) (disk_faults d new)
-IsWhy p d (open.BadStore file at) old new = HasStore p d (content_in old d 0) (content_in old d 1) (stores.Bad file at)
-IsWhy p d open.OtherProgram old new = HasStore p d (content_in old d 0) (content_in old d 1) stores.OtherProgram
+IsWhy p d unopened.Memory old new = Unit {0}
+IsWhy p d unopened.Disk old new = Rose (disk_faults d old) (disk_faults d new)
+IsWhy p d (unopened.BadStore file at) old new = HasStore p d (content_in old d 0) (content_in old d 1) (stores.Bad file at)
+IsWhy p d unopened.OtherProgram old new = HasStore p d (content_in old d 0) (content_in old d 1) stores.OtherProgram
 
 -- all devices open, or all before the first that doesn't
 abbrev pub FindsUnopened : Program → Option (ℕ × OpenFault) → Seen → Seen → Type 0
@@ -46,7 +46,7 @@ opening_result (Some u) = Err u
 
 -- no call failed, unless the disk of this device is why it doesn't open
 abbrev pub FailsNone : Option (ℕ × OpenFault) → Seen → Seen → Type 0
-FailsNone (Some (d, open.Disk)) old new = Rose (disk_faults d old) (disk_faults d new)
+FailsNone (Some (d, unopened.Disk)) old new = Rose (disk_faults d old) (disk_faults d new)
 FailsNone u old new = new.faults ≡ old.faults
 
 -- The devices are opened in order, up to the first that doesn't open, and nothing is said.

@@ -3,7 +3,7 @@
 -- `device a;` with and without a separator behind it says nothing; both end with status 0. Where the store of b is bad nothing is said but the line of status 4.
 use Rattle.std.specs.Prelude.{ℕ, ◌-◌, List, [], ◌++◌, Bool, true, false, Option, Some, None, if◌then◌else◌, take}
 use Rattle.re_compact.specs.declared.fault.OpenFault.{OpenFault}
-use Rattle.re_compact.specs.declared.fault.OpenFault.TheVariants as open
+use Rattle.re_compact.specs.declared.fault.OpenFault.TheVariants as unopened
 use Rattle.re_print.specs.Canonical.{program_text}
 use Rattle.re_session.specs.LineAnswers.{texts}
 use Rattle.re_terms.specs.DeviceWorlds.{Outcome, World}
@@ -69,10 +69,10 @@ reading_end read failed = if is_over read then InputTooLong else if failed then 
 
 -- a device that doesn't open ends the run
 abbrev pub unopened_end : Program → ℕ × OpenFault → Ending
-unopened_end p (d, open.Memory) = NoMemory
-unopened_end p (d, open.Disk) = DiskFault (device_name p d)
-unopened_end p (d, open.BadStore file at) = BadStore (device_name p d) file at
-unopened_end p (d, open.OtherProgram) = OtherProgram (device_name p d)
+unopened_end p (d, unopened.Memory) = NoMemory
+unopened_end p (d, unopened.Disk) = DiskFault (device_name p d)
+unopened_end p (d, unopened.BadStore file at) = BadStore (device_name p d) file at
+unopened_end p (d, unopened.OtherProgram) = OtherProgram (device_name p d)
 
 -- a refused program part ends the run, and then a device that doesn't open
 abbrev pub ending_with : Verdict → Option (ℕ × OpenFault) → Ending → Ending

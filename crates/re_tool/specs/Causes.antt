@@ -103,8 +103,8 @@ pub record IsUntroubled (old new : Seen) : Type 0 where
   pub quiet : (kind : FaultKind) → Counts 1 (old.faults kind) (new.faults kind) → ⊥
   pub few : TooMuch old new → ⊥
   pub accepted : IsRefusedPart old new → ⊥
-  pub stores : (p : Program) (d file at : ℕ) → FindsStore old new p d (stores.Bad file at) → ⊥
-  pub own : (p : Program) (d : ℕ) → FindsStore old new p d stores.OtherProgram → ⊥
+  pub bad : (p : Program) (d file at : ℕ) → FindsStore old new p d (stores.Bad file at) → ⊥
+  pub others : (p : Program) (d : ℕ) → FindsStore old new p d stores.OtherProgram → ⊥
 
 -- Such a run ends with status 0, or with 9 for want of memory.
 abbrev pub Completes : Seen → Seen → Status → Type 0

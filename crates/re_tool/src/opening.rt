@@ -1,7 +1,7 @@
 //! Opens the devices of a program, and says why one doesn't open.
 ghost use Rattle.std.specs.Prelude.{◌≡◌, ◌≢◌, ◌≤◌, ◌⊎◌, ◌++◌, ℕ, codes, length, IfOk, Some, Err};
 ghost use Rattle.re_compact.specs.declared.fault.OpenFault.{OpenFault as TheFault};
-ghost use Rattle.re_compact.specs.declared.fault.OpenFault.TheVariants as open;
+ghost use Rattle.re_compact.specs.declared.fault.OpenFault.TheVariants as unopened;
 ghost use Rattle.re_print.specs.Canonical.{program_text};
 ghost use Rattle.re_terms.specs.Programs.{IsProgram};
 ghost use Rattle.re_tool.specs.Acts.{IsOpening, OpensAs};
@@ -71,7 +71,11 @@ fn unopened_line(
 {
     let name = device_name(p, device);
     match fault {
-        OpenFault::BadStore { file, at } => device_line(alloc, name, &bad_store_text(alloc, file, at)?),
+        OpenFault::BadStore { file, at } => device_line(
+            alloc,
+            name,
+            &bad_store_text(alloc, file, at)?,
+        ),
         OpenFault::OtherProgram => device_line(alloc, name, b"other program"),
         _ => device_line(alloc, name, b"disk fault"),
     }

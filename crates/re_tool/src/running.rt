@@ -84,12 +84,7 @@ fn refuse<O: Outside>(alloc: Global, out: &mut O, why: Refusal) -> Status
 }
 
 /// Does the lines behind the program part, and ends the run.
-fn serve<O: Outside>(
-    alloc: Global,
-    devices: &mut World,
-    reader: &mut Reader,
-    out: &mut O,
-) -> Status
+fn serve<O: Outside>(alloc: Global, devices: &mut World, reader: &mut Reader, out: &mut O) -> Status
     requires few { reader.old.taken ≤ limit }
     ensures { (start : Seen) → Starts start (O.seen out.old) devices.old.program reader.old devices.old → Runs Job.Run start (O.seen out.new) result }
 {
@@ -147,11 +142,7 @@ struct ProgramRead {
 }
 
 /// Reads the program part. Where that can't be, each job has ended, and the refusal is its status.
-fn open<O: Outside>(
-    alloc: Global,
-    reader: &mut Reader,
-    out: &mut O,
-) -> Result<ProgramRead, Status>
+fn open<O: Outside>(alloc: Global, reader: &mut Reader, out: &mut O) -> Result<ProgramRead, Status>
     requires start { reader.old ≡ record { chunk = []; taken = 0 } }
     ensures opened { IfOk result (λ read. Opens reader.new read.is_divided read.program (O.seen out.old) (O.seen out.new)) }
     ensures program { IfOk result (λ read. IsProgram read.program) }

@@ -13,7 +13,7 @@ pub lines-init : goal.lines-init
 lines-init g c = record {
   so_far = λ start h. starts_so_far start _ _ _ _ h;
   program = refl;
-  few = c.requires;
+  few = c.requires.few;
   most = ap (λ (l : Clipped). l.most) c.new-line.ensures;
 }
 

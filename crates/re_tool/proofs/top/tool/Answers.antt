@@ -5,7 +5,7 @@ use Rattle.re_tool.specs.declared.words.Wish.TheVariants as wish
 use Rattle.re_tool.specs.Session.{Runs}
 use Rattle.re_tool.specs.Words.{IsWish}
 use Rattle.re_outside.proofs.Does.{does-nil}
-use Rattle.re_tool.proofs.Caused.{never_words, program_cause, completes}
+use Rattle.re_tool.proofs.Caused.{completes, never_words, opening_cause, program_cause}
 use Rattle.std.proofs.Common.{inl, inr}
 use Rattle.re_tool.proofs.Endings.{near_finish}
 use Rattle.re_tool.proofs.Failing.{refused_stops}
@@ -32,7 +32,7 @@ pub returns-in-Err-Memory-clause-runs : goal.returns-in-Err-Memory-clause-runs
 returns-in-Err-Memory-clause-runs g c = λ j h. near_finish _ _ _ _ _ (near_stops _ _ _ _ (omega arith) (does-nil _)) _ (λ q. absurd (cc)) c.finish-in-Err-Memory.ensures
 
 pub returns-in-Err-Memory-clause-program : goal.returns-in-Err-Memory-clause-program
-returns-in-Err-Memory-clause-program g c = λ j h. program_cause _ _ _ _ (near_finish _ _ _ _ _ (near_stops _ _ _ _ (omega arith) (does-nil _)) _ (λ q. absurd (cc)) c.finish-in-Err-Memory.ensures)
+returns-in-Err-Memory-clause-program g c = λ j h. program_cause j _ _ _ (near_finish j _ _ _ _ (near_stops j _ _ _ (omega arith) (does-nil _)) _ (λ q. absurd (cc)) c.finish-in-Err-Memory.ensures)
 
 pub returns-in-Ok-Job-clause-complete : goal.returns-in-Ok-Job-clause-complete
 returns-in-Ok-Job-clause-complete g c = λ j h.
@@ -40,10 +40,13 @@ returns-in-Ok-Job-clause-complete g c = λ j h.
     completes _ _ _ _ (subst (λ x. Runs x (g.O.Outside.seen c.args.out.now) (g.O.Outside.seen c.session.new.out) c.session.result) (one_job _ c.in-Ok-Job.field-0 q.0 j c.in-Ok-Job.ensures.accepted q.1 h) (rw q.1 at c.session.ensures.runs))
 
 pub returns-in-Err-Memory-clause-complete : goal.returns-in-Err-Memory-clause-complete
-returns-in-Err-Memory-clause-complete g c = λ j h. completes _ _ _ _ (near_finish _ _ _ _ _ (near_stops _ _ _ _ (omega arith) (does-nil _)) _ (λ q. absurd (cc)) c.finish-in-Err-Memory.ensures)
+returns-in-Err-Memory-clause-complete g c = λ j h. completes j _ _ _ (near_finish j _ _ _ _ (near_stops j _ _ _ (omega arith) (does-nil _)) _ (λ q. absurd (cc)) c.finish-in-Err-Memory.ensures)
 
 pub returns-in-Err-Words-clause-failures : goal.returns-in-Err-Words-clause-failures
 returns-in-Err-Words-clause-failures g c = refused_stops _ _ _ (inl c.finish.ensures)
 
 pub returns-in-Err-Memory-clause-failures : goal.returns-in-Err-Memory-clause-failures
 returns-in-Err-Memory-clause-failures g c = refused_stops _ _ _ (inr c.finish-in-Err-Memory.ensures)
+
+pub returns-in-Err-Memory-clause-opening : goal.returns-in-Err-Memory-clause-opening
+returns-in-Err-Memory-clause-opening g c = λ j h. opening_cause j _ _ _ (near_finish j _ _ _ _ (near_stops j _ _ _ (omega arith) (does-nil _)) _ (λ q. absurd (cc)) c.finish-in-Err-Memory.ensures)
