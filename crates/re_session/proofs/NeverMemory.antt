@@ -1,5 +1,5 @@
 -- No line means that memory ran out.
-use Rattle.std.proofs.Common.{ℕ, Bool, true, false, ◌≡◌, [], ◌∷◌, List, Option, Some, None, Ok, Err, ap}
+use Rattle.std.proofs.Common.{ℕ, Bool, true, false, ◌≡◌, [], ◌∷◌, List, Option, Some, None, Ok, Err, ap, length, refl}
 use Rattle.std.specs.Prelude.{Result, nat_lt, if◌then◌else◌}
 use Rattle.re_commands.specs.Commanding.{is_device_at, device_number, device_at, shown_at, made, turn_as, both, meant, line_meant, marks_meant, commanded}
 use Rattle.re_commands.specs.Faults.{first_fault}

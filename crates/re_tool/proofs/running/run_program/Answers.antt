@@ -6,7 +6,7 @@ use Rattle.re_tool.proofs.Starting.{all_done, near_part_is, part_is_all, part_is
 use Rattle.re_tool.proofs.running.run_program.Goals as goal
 
 pub returns-in_default : goal.returns-in_default
-returns-in_default g c = ?
+returns-in_default g c = λ start text h is. near_finish _ _ _ _ _ (near_part_is _ _ _ _ _ _ h) _ (λ q. absurd (cc)) c.finish.ensures
 
 pub returns-in-Ok-open_devices : goal.returns-in-Ok-open_devices
 returns-in-Ok-open_devices g c = λ start text h is.
