@@ -1,18 +1,26 @@
 //! Devices and sessions in the hands of other code.
 ghost use Rattle.std.specs.Prelude.{◌<◌, ◌^◌, length};
 
-use crate::running::{no_files, world_of};
-use re_fakes::MemoryWorld;
+use re_fakes::{Files, MemoryWorld};
 use re_outside::Step;
 use re_print::print_program;
 use re_session::do_line;
 use re_syntax::parse;
+use re_terms::Seq;
 use re_tokens::tokens;
 use re_tool::{Job, Status, session};
 use re_types::resolve;
 use re_world::World;
 use std::alloc::{AllocError, Global};
 use std::test::Fail;
+
+/// A world in memory with this input, over files that hold nothing, in which no call fails.
+fn in_memory(alloc: Global, input: &[u8]) -> Result<MemoryWorld, AllocError> {
+    let files = Files {
+        list: Seq::new(alloc),
+    };
+    MemoryWorld::new(alloc, input, files, Seq::new(alloc))
+}
 
 /// All that was said in memory.
 fn said(alloc: Global, out: &MemoryWorld) -> Result<Vec<u8>, AllocError> {
@@ -35,7 +43,7 @@ fn answers(alloc: Global, text: &[u8], lines: &[&[u8]]) -> Option<Vec<u8>>
     if print_program(alloc, &program).ok()?.len() > 65_536 {
         return None;
     }
-    let mut out = world_of(alloc, &[], no_files(alloc), &[]).ok()?;
+    let mut out = in_memory(alloc, &[]).ok()?;
     let mut devices = World::new(alloc, &mut out, program).ok()?;
     for line in lines {
         do_line(alloc, &mut devices, *line, &mut out).ok()?;
@@ -62,7 +70,7 @@ fn devices_take_lines(rt: HostRuntime) -> Result<(), Fail> {
 
 /// What a session over these bytes says, in memory, and how it ends.
 fn said_in_memory(alloc: Global, input: &[u8]) -> Result<(Status, Vec<u8>), AllocError> {
-    let mut world = world_of(alloc, input, no_files(alloc), &[])?;
+    let mut world = in_memory(alloc, input)?;
     let status = session(alloc, &Job::Run, &mut world);
     Ok((status, said(alloc, &world)?))
 }
