@@ -1,6 +1,7 @@
 pub mod Acting
 pub mod Answering
 pub mod Codes
+pub mod GoingOn
 pub mod Lasting
 pub mod LimitCodes
 pub mod Meanings
@@ -8,4 +9,5 @@ pub mod NeverMemory
 pub mod Plans
 pub mod Quiet
 pub mod Refusals
+pub mod Stopping
 pub mod VarWords

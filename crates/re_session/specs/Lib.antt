@@ -3,3 +3,4 @@ pub mod Begins
 pub mod Histories
 pub mod LineAnswers
 pub mod Serving
+pub mod Stops

@@ -1,13 +1,17 @@
 //! What follows from the definitions of the answers, for every program and every session.
-ghost use Rattle.std.specs.Prelude.{◌≡◌, ℕ, List, [], ◌∷◌, ◌++◌, ◌≢◌, ◌↔◌, ◌≤◌, map, true, false, slice_get, slice_index_or, Ok, Err, Some, None};
+ghost use Rattle.std.specs.Prelude.{◌≡◌, ℕ, List, Option, [], ◌∷◌, ◌++◌, ◌≢◌, ◌↔◌, ◌≤◌, map, true, false, slice_get, slice_index_or, Ok, Err, Some, None};
 ghost use Rattle.re_commands.specs.Commanding.{commanded};
+ghost use Rattle.re_outside.specs.Moment.{Throughout};
 ghost use Rattle.re_outside.specs.Outside.{Seen};
+ghost use Rattle.re_outside.specs.Port.{past_in};
 ghost use Rattle.re_print.specs.Canonical.{word_text};
 ghost use Rattle.re_session.specs.Acts.{Acts, DoneLine, said_by};
 ghost use Rattle.re_session.specs.Histories.{IsEntry, last_set};
 ghost use Rattle.re_session.specs.LineAnswers.{fault_code, line_answer, line_text, lines_after, texts};
+ghost use Rattle.re_session.specs.Stops.{GoesOn, Stops};
 ghost use Rattle.re_terms.specs.Cells.{cell_place};
 ghost use Rattle.re_terms.specs.DeviceWorlds.{World, Outcome, Fine, Memory, device_state, taken, takes_no_more};
+ghost use Rattle.re_terms.specs.Lines.{Done};
 ghost use Rattle.re_terms.specs.Limits.{OperationFault, updates_fault};
 ghost use Rattle.re_terms.specs.Meaning.{meaning};
 ghost use Rattle.re_terms.specs.Programs.{IsProgram};
@@ -21,6 +25,7 @@ ghost use Rattle.re_terms.specs.declared.program.Decl.{Decl};
 ghost use Rattle.re_terms.specs.declared.program.Program.{Program};
 ghost use Rattle.re_terms.specs.declared.word.Kind.{Kind};
 ghost use Rattle.re_terms.specs.declared.word.Word.{Word};
+ghost use Rattle.re_world.specs.Images.{Restores};
 ghost use Rattle.re_world.specs.Standing.{IsWorldOf};
 ghost use Rattle.re_world.specs.State.{WorldState};
 
@@ -34,6 +39,20 @@ pub fn session_law()
         said_by p lines ≡ texts p w (map (λ (l : DoneLine). l.line) lines) (map (λ (l : DoneLine). l.outcome) lines) }
     ensures world { (p : Program) (lines : List DoneLine) (before after : WorldState) (old new : Seen) (w : World) → old.told ≡ true → Acts p lines before after old new → IsWorldOf p w before old →
         IsWorldOf p (lines_after p w (map (λ (l : DoneLine). l.line) lines) (map (λ (l : DoneLine). l.outcome) lines)) after new }
+{}
+
+/// At each moment of lines that are done one behind the other, a stop leaves files of all devices that restore to the world behind the
+/// first of these lines, with the next one's command under way or none; and what was said until then are answers to these first lines.
+pub fn stop_law()
+    ensures { (p : Program) (lines : List DoneLine) (before after : WorldState) (old new : Seen) (w : World) → old.told ≡ true → Acts p lines before after old new → IsWorldOf p w before old →
+        Throughout (past_in 0 old) (past_in 0 new) (Stops p w lines (past_in 0 old)) }
+{}
+
+/// Files that restore to a world are files over which a session may begin: the update log behind them goes on, and each device begins at
+/// the number of the last entry that its files hold. So what a stop left of one run meets what the next one asks of its files.
+pub fn next_run_law()
+    ensures { (p : Program) (w : World) (under_way : Option Done) (files : ℕ → ℕ → List ℕ) (restored : Restores p w under_way files) (s : Seen) →
+        s.told ≡ true → s.trace ≡ [] → s.start ≡ files → GoesOn p w under_way files restored s }
 {}
 
 /// A get of a var says the word to which the last of the device's entries set it, settled or not, and the word at the start of the

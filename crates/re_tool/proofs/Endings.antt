@@ -91,7 +91,7 @@ files_on start (Some s) os b c text f told d h = λ i below. opens_on s.program 
 
 -- ---- sessions in their worlds
 
-fared_lines : (did : List DoneLine) → length (outcomes_in did) ≡ length (lines_in did)
+pub fared_lines : (did : List DoneLine) → length (outcomes_in did) ≡ length (lines_in did)
 fared_lines did = length-map did (λ (l : DoneLine). l.outcome) ∙ sym (length-map did (λ (l : DoneLine). l.line))
 
 lines_more : (did : List DoneLine) (l : DoneLine) → lines_in (did ++ l ∷ []) ≡ lines_in did ++ l.line ∷ []

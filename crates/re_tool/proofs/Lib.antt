@@ -14,4 +14,5 @@ pub mod Serves
 pub mod Sessions
 pub mod Splits
 pub mod Starting
+pub mod Stopping
 pub mod Settling

@@ -15,6 +15,7 @@ use Rattle.re_session.specs.Begins.{Begins}
 use Rattle.re_session.specs.Serving.{Goes}
 use Rattle.re_terms.specs.Admission.{device_count}
 use Rattle.re_terms.specs.DeviceWorlds.{World, start_world}
+use Rattle.re_terms.specs.Programs.{IsProgram}
 use Rattle.re_terms.specs.Runs.{PlainState}
 use Rattle.re_terms.specs.Updates.{Update}
 use Rattle.re_terms.specs.declared.program.Program.{Program}
@@ -29,6 +30,7 @@ use Rattle.re_world.specs.State.{WorldState, device_in}
 
 -- what the opening of all devices promises
 pub record Given (p : Program) (old new : Seen) (r : Result WorldState (ℕ × OpenFault)) (tells : Bool) : Type 0 where
+  pub is_program : IsProgram p
   pub always : old.told ≡ tells
   pub told : new.told ≡ old.told
   pub program : IfOk r (λ v. v.program ≡ p)
@@ -64,6 +66,7 @@ module _ (p : Program) (old new : Seen) (tells : Bool) where
   pub opens_as : (v : WorldState) → Given p old new (Ok v) tells → OpensAs p v old new
   opens_as v g = record {
     opening = record {
+      is_program = g.is_program;
       finds = λ t. g.all (tells_here (Ok v) g t);
       steps = λ t. g.steps (tells_here (Ok v) g t);
       failed = calm_ok v g;
@@ -91,6 +94,7 @@ module _ (p : Program) (old new : Seen) (tells : Bool) where
   -- a device doesn't open
   pub is_opening : (d : ℕ) (fault : OpenFault) → Given p old new (Err (d, fault)) tells → IsOpening p (Some (d, fault)) old new
   is_opening d fault g = record {
+    is_program = g.is_program;
     finds = λ t. let here = tells_here (Err (d, fault)) g t in (g.first d fault here refl, why d fault g here);
     steps = λ t. all_handed WorldState {U = ⊤} p (Err (d, fault)) (d, fault) (past_in 0 old) (past_in 0 new) refl (g.steps (tells_here (Err (d, fault)) g t));
     failed = fails d fault g;

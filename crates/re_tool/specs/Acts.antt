@@ -15,6 +15,7 @@ use Rattle.re_session.specs.Begins.{Begins}
 use Rattle.re_session.specs.Serving.{DoesLine, Goes}
 use Rattle.re_terms.specs.Admission.{device_count}
 use Rattle.re_terms.specs.DeviceWorlds.{World}
+use Rattle.re_terms.specs.Programs.{IsProgram}
 use Rattle.re_terms.specs.declared.program.Program.{Program}
 use Rattle.re_tool.specs.Answers.{Session}
 use Rattle.re_tool.specs.Verdict.{Accepted, Verdict}
@@ -51,6 +52,7 @@ FailsNone u old new = new.faults ≡ old.faults
 
 -- The devices are opened in order, up to the first that doesn't open, and nothing is said.
 pub record IsOpening (p : Program) (unopened : Option (ℕ × OpenFault)) (old new : Seen) : Type 0 where
+  pub is_program : IsProgram p
   pub finds : old.told ≡ true → FindsUnopened p unopened old new
   pub steps : old.told ≡ true → HasAllOpeningSteps p (past_in 0 old) (past_in 0 new) (opening_result unopened)
   pub failed : FailsNone unopened old new

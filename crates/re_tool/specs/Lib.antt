@@ -15,5 +15,6 @@ pub mod Refusals
 pub mod Serving
 pub mod Session
 pub mod Status
+pub mod Stops
 pub mod Verdict
 pub mod Words

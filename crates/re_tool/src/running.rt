@@ -13,6 +13,7 @@ ghost use Rattle.re_tool.specs.PartReading.{PartIs};
 ghost use Rattle.re_tool.specs.Reads.{limit};
 ghost use Rattle.re_tool.specs.Serving.{Starts};
 ghost use Rattle.re_tool.specs.Session.{Finishes, Runs};
+ghost use Rattle.re_tool.specs.Stops.{Survives};
 ghost use Rattle.re_tool.specs.Verdict.{Accepted, Decides, text_limit};
 
 use crate::faults::{ProgramFault, Refusal, refusal_text};
@@ -227,6 +228,7 @@ fn check<O: Outside>(alloc: Global, out: &mut O) -> Status
 /// answers, and when each status comes. Memory for the input is constant, whatever its length.
 pub fn session<O: Outside>(alloc: Global, job: &Job, out: &mut O) -> Status
     ensures runs { Runs job.now (O.seen out.old) (O.seen out.new) result }
+    ensures survives { Survives job.now (O.seen out.old) (O.seen out.new) result }
     ensures end { EndCause job.now (O.seen out.old) (O.seen out.new) result }
     ensures program { ProgramCause (O.seen out.old) (O.seen out.new) result }
     ensures opening { OpeningCause (O.seen out.old) (O.seen out.new) result }

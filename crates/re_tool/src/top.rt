@@ -4,6 +4,7 @@ ghost use Rattle.std.specs.String.{string_bytes};
 ghost use Rattle.re_tool.specs.Causes.{Completes, EndCause, InputCause, OpeningCause, OutputCause, ProgramCause, TooLongCause};
 ghost use Rattle.re_tool.specs.Failures.{StopsAtFailures};
 ghost use Rattle.re_tool.specs.Session.{Runs, Refuses};
+ghost use Rattle.re_tool.specs.Stops.{Survives};
 ghost use Rattle.re_tool.specs.Words.{job_of};
 
 use crate::running::{finish, session};
@@ -27,6 +28,7 @@ pub fn tool<R: Threads + Wait + Sync, O: Outside + Send, G: Gate>(
     _gate: &G,
 ) -> Status
     ensures runs { (job : Job) → job_of (map string_bytes words.now) ≡ Some job → Runs job (O.Outside.seen out.old) (O.Outside.seen out.new) result }
+    ensures survives { (job : Job) → job_of (map string_bytes words.now) ≡ Some job → Survives job (O.Outside.seen out.old) (O.Outside.seen out.new) result }
     ensures refused { job_of (map string_bytes words.now) ≡ None → Refuses (O.Outside.seen out.old) (O.Outside.seen out.new) result }
     ensures words { result ≡ Status.Words → job_of (map string_bytes words.now) ≡ None }
     ensures end { (job : Job) → job_of (map string_bytes words.now) ≡ Some job → EndCause job (O.Outside.seen out.old) (O.Outside.seen out.new) result }

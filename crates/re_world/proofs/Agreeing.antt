@@ -1,5 +1,5 @@
 -- Two worlds that have the same of one device.
-use Rattle.std.proofs.Common.{◌≡◌, ◌⊎◌, inl, inr, ◌<◌, ◌+◌, ◌++◌, ℕ, List, Option, length, refl, sym, ap, subst, ◌∙◌}
+use Rattle.std.proofs.Common.{◌≡◌, inl, inr, ◌<◌, ◌+◌, ◌++◌, ℕ, List, length, sym, ap, subst, ◌∙◌}
 use Rattle.std.specs.Prelude.{if◌then◌else◌, []}
 use Rattle.re_device.specs.Device.{DeviceState, current}
 use Rattle.re_device.specs.Stepping.{IsDeviceOf, IsPlainly}

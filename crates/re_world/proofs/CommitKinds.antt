@@ -1,5 +1,5 @@
 -- Turns, deliveries and settlings are commands that commit.
-use Rattle.std.proofs.Common.{◌≡◌, ◌++◌, ◌∷◌, [], ℕ, List, Some, refl, sym, ap, ◌∙◌, arith}
+use Rattle.std.proofs.Common.{◌≡◌, ◌++◌, [], ℕ, List, refl, ap, ◌∙◌, arith}
 use Rattle.std.specs.Prelude.{Bool, true, false, ◌==◌, if◌then◌else◌}
 use Rattle.std.proofs.lemmas.Bool.Decides.{nat_tests}
 use Rattle.std.proofs.lemmas.List.{append-nil}
@@ -20,6 +20,7 @@ none_either false = refl
 pub turn_commit : (p : Program) (w : World) (n : ℕ) (t : Admitted) → IsCommit p w (command.Turn n t) n
 turn_commit p w n t = record {
   device_is = refl;
+  is_commit = refl;
   failed = λ at gate_open. refl;
   stop = refl;
   packets = kept;
@@ -36,6 +37,7 @@ turn_commit p w n t = record {
 pub deliver_commit : (p : Program) (w : World) (n k : ℕ) → IsCommit p w (command.Deliver k n) n
 deliver_commit p w n k = record {
   device_is = refl;
+  is_commit = refl;
   failed = λ at gate_open. refl;
   stop = refl;
   packets = kept;
@@ -52,6 +54,7 @@ deliver_commit p w n k = record {
 pub settle_commit : (p : Program) (w : World) (n : ℕ) → IsCommit p w (command.Settle n) n
 settle_commit p w n = record {
   device_is = refl;
+  is_commit = refl;
   failed = λ at gate_open. refl;
   stop = refl;
   packets = kept;

@@ -7,7 +7,7 @@ use Rattle.std.proofs.lemmas.List.{append-nil, length-append}
 use Rattle.re_device.specs.Committing.{record_reads_open}
 use Rattle.re_device.specs.Device.{DeviceState}
 use Rattle.re_device.specs.Standing.{LeavesEither, ReadsBy, StandsSettled}
-use Rattle.re_device.specs.Stepping.{IsDeviceOf, IsPlainly, answered_as, fared_as, refused_as}
+use Rattle.re_device.specs.Stepping.{IsDeviceOf, IsPlainly, answered_as, fared_as}
 use Rattle.re_device.specs.declared.fault.DeviceFault.{DeviceFault}
 use Rattle.re_device.specs.declared.fault.DeviceFault.TheVariants as fault
 use Rattle.re_outside.proofs.Elsewhere as elsewhere
@@ -22,23 +22,23 @@ use Rattle.re_terms.proofs.CausalSteps.{stepped}
 use Rattle.re_terms.proofs.WorldSteps.{others_kept, with_at-same}
 use Rattle.re_terms.specs.Admission.{IsCommandOf, device_count}
 use Rattle.re_terms.specs.CausalWorlds.{IsCausalWorld}
-use Rattle.re_terms.specs.DeviceWorlds.{Failed, Fine, Memory, Outcome, World, device_of, doubt, is_refusal, record_of, recovered, reply, settled_number, spelled, world_after}
+use Rattle.re_terms.specs.DeviceWorlds.{Failed, Fine, Outcome, World, doubt, is_refusal, record_of, recovered, reply, settled_number, spelled, world_after}
 use Rattle.re_terms.specs.Entries.{PlainEntry, run_entries}
-use Rattle.re_terms.specs.Lines.{Done, first_filled, further, may_have_entered, own_entry}
+use Rattle.re_terms.specs.Lines.{first_filled, further, may_have_entered, own_entry}
 use Rattle.re_terms.specs.Shapes.{FitsShape, shape_of}
 use Rattle.re_terms.specs.Untouched.{IsUntouched}
 use Rattle.re_terms.specs.UpdateStates.{state_of_updates}
-use Rattle.re_terms.specs.Worlds.{PlainAnswer, Refused}
+use Rattle.re_terms.specs.Worlds.{PlainAnswer}
 use Rattle.re_terms.specs.declared.command.Command.{Command}
 use Rattle.re_terms.specs.declared.entry.Logged.{Logged}
 use Rattle.re_terms.specs.declared.program.Program.{Program}
 use Rattle.re_world.proofs.Agreeing.{opens_in}
 use Rattle.re_world.proofs.Committed.{IsCommit, failed_is, memory_same, none_in_doubt, opens_after, packets_same, refused_fine, standing_rests}
 use Rattle.re_world.proofs.Stepped.{world_behind}
-use Rattle.re_world.proofs.Within.{rests_line, within_moves, within_still}
+use Rattle.re_world.proofs.Within.{within_moves, within_still}
 use Rattle.re_world.proofs.Unmoved.{unmoved_settling}
 use Rattle.re_world.specs.Calls.{Commits, Leaves}
-use Rattle.re_world.specs.Images.{OpensAfter, OpensToLine}
+use Rattle.re_world.specs.Images.{OpensAfter}
 use Rattle.re_world.specs.Standing.{HasDevice, IsWorldOf, RestsAs}
 use Rattle.re_world.specs.State.{WorldState, device_in}
 use Rattle.re_world.specs.Stepping.{RestoresWithin}
@@ -99,7 +99,7 @@ module _ (p : Program) (w : World) (v : WorldState) (c : Command) (x : DeviceSta
           within_moves p w v c o before now is d (LeavesEither x.memory after old_past) moments (λ m leaves. leaves.others)
           (λ there m leaves first second a b. elim (opens_either (as_device d m) leaves first second a b) [
             | inl settled ↦ inl (settled_after first second settled)
-            | inr later ↦ inr (subst (λ l. OpensAfter p w d first second (w.settled d ++ l)) (sym line) (record_after first second later))
+            | inr later ↦ inr (inr (record { device_is = commit.device_is; is_commit = commit.is_commit; enters = enters }), subst (λ l. OpensAfter p w d first second (w.settled d ++ l)) (sym line) (record_after first second later))
           ])
         where
           line : further p w (Some (record { asked = c; outcome = o })) d ≡ record_of w c

@@ -1,41 +1,28 @@
 -- A command that commits is a step of the world.
-use Rattle.std.proofs.Common.{◌≡◌, ◌⊎◌, inl, inr, ◌<◌, ◌+◌, ◌++◌, [], ℕ, List, Option, Some, None, Result, Ok, Err, length, refl, sym, ap, subst, ◌∙◌}
-use Rattle.std.specs.Prelude.{Bool, false, true, ◌==◌, ◌≢◌, if◌then◌else◌, map, unwrap_or}
+use Rattle.std.proofs.Common.{◌≡◌, inl, ◌+◌, ◌++◌, [], ℕ, List, Option, Some, None, length, refl, sym, ap, subst, ◌∙◌}
+use Rattle.std.specs.Prelude.{Bool, false, true, ◌≢◌, if◌then◌else◌, unwrap_or}
 use Rattle.std.specs.Option.{option_map_or}
-use Rattle.std.specs.List.{All}
 use Rattle.std.proofs.lemmas.List.{append-nil}
 use mathlib.Core.Bool.{true≢false}
 use Rattle.re_device.proofs.Settling.{stands_only}
-use Rattle.re_device.specs.Committing.{HasDiskCause, record_reads_open}
-use Rattle.re_device.specs.Device.{DeviceMemory, DeviceState}
-use Rattle.re_device.specs.Standing.{LeavesEither, OpensToEither, ReadsBy, StandsSettled}
-use Rattle.re_device.specs.Stepping.{IsDeviceOf, IsPlainly, answered_as, fared_as, refused_as}
-use Rattle.re_device.specs.declared.fault.DeviceFault.{DeviceFault}
-use Rattle.re_device.specs.declared.fault.DeviceFault.TheVariants as fault
-use Rattle.re_outside.proofs.Moments.{at_end}
-use Rattle.re_outside.specs.Moment.{IsKept, OnlyDeviceMoves}
-use Rattle.re_outside.specs.Outside.{Seen}
-use Rattle.re_outside.specs.Port.{disk_faults, other_faults, past_in}
-use Rattle.re_outside.specs.Trace.{IsCrashImageOf, Past, as_device, content_of}
+use Rattle.re_device.specs.Device.{DeviceState}
+use Rattle.re_device.specs.Standing.{StandsSettled}
+use Rattle.re_device.specs.Stepping.{IsDeviceOf, IsPlainly}
+use Rattle.re_outside.specs.Trace.{IsCrashImageOf, Past, content_of}
 use Rattle.re_record.specs.Restoring.{Opened}
 use Rattle.re_record.specs.Stores.{OpensTo}
-use Rattle.re_terms.proofs.CausalSteps.{stepped}
-use Rattle.re_terms.proofs.WorldSteps.{with_at-same}
-use Rattle.re_terms.specs.Admission.{IsCommandOf, device_count}
+use Rattle.re_terms.specs.Admission.{device_count}
 use Rattle.re_terms.specs.CausalWorlds.{IsCausalWorld}
-use Rattle.re_terms.specs.DeviceWorlds.{Failed, Fine, Memory, Outcome, World, calls_files, device_of, done_answer, is_refusal, done_world, doubt, failed_world, fared_world, outcome_of, record_of, recovered, refusal, reply, settled_number, world_after}
+use Rattle.re_terms.specs.DeviceWorlds.{Failed, Fine, Memory, Outcome, World, calls_files, device_of, done_answer, is_refusal, done_world, doubt, failed_world, fared_world, outcome_of, record_of, recovered, refusal, reply, world_after}
 use Rattle.re_terms.specs.Entries.{PlainEntry, run_entries}
-use Rattle.re_terms.specs.Lines.{Done, entry_under_way, first_filled, further, may_have_entered, own_entry}
-use Rattle.re_terms.specs.Runs.{StandsForPlain}
-use Rattle.re_terms.specs.Worlds.{Members, PlainAnswer, Refused, StoppedAt, Value, is_set_at}
+use Rattle.re_terms.specs.Lines.{may_have_entered, own_entry}
+use Rattle.re_terms.specs.Worlds.{Members, PlainAnswer, Value, is_set_at}
 use Rattle.re_terms.specs.declared.command.Command.{Command}
 use Rattle.re_terms.specs.declared.command.Command.TheVariants as command
 use Rattle.re_terms.specs.declared.program.Program.{Program}
 use Rattle.re_terms.specs.declared.word.Word.{Word}
-use Rattle.re_world.specs.Calls.{Commits}
-use Rattle.re_world.specs.Images.{OpensAfter, OpensToLine}
-use Rattle.re_world.specs.Standing.{HasDevice, IsWorldOf, RestsAs}
-use Rattle.re_world.specs.State.{WorldState, device_in}
+use Rattle.re_world.specs.Images.{OpensAfter, commits}
+use Rattle.re_world.specs.Standing.{RestsAs}
 
 -- what is opened is the state after these entries
 pub opens_after : (p : Program) (w : World) (d : ℕ) (first second : List ℕ) (entries : List PlainEntry) (o : Opened) (n : ℕ) → OpensTo p d first second o → IsPlainly p o (run_entries p d (w.base d) entries) n → n ≡ w.base_number d + length entries → OpensAfter p w d first second entries
@@ -72,6 +59,7 @@ standing_rests p w x d now number here causal own runs stands reads = record {
 -- what is asked of such a command
 pub record IsCommit (p : Program) (w : World) (c : Command) (d : ℕ) : Type 0 where
   pub device_is : device_of c ≡ Some d
+  pub is_commit : commits c ≡ true
   pub failed : (at : ℕ) (gate_open : Bool) → failed_world w c at gate_open ≡ doubt w d (record_of w c) at gate_open
   pub stop : (done_world w c).stop ≡ w.stop
   pub packets : (o : Outcome) → (fared_world w c o).packets ≡ w.packets

@@ -1,5 +1,5 @@
 -- A packet of the world, as its bytes are read.
-use Rattle.std.proofs.Common.{◌≡◌, ◌<◌, ◌≤◌, ◌+◌, ◌∷◌, [], ℕ, zero, suc, List, Option, Some, None, length, refl, sym, ap, subst, ◌∙◌, arith}
+use Rattle.std.proofs.Common.{◌≡◌, ◌<◌, ◌≤◌, ◌∷◌, [], ℕ, zero, suc, List, Some, None, length, refl, sym, ap, subst, ◌∙◌, arith}
 use Rattle.std.specs.Prelude.{◌^◌, true, false, map, nat_le, slice_get}
 use Rattle.std.specs.List.{All}
 use Rattle.std.proofs.lemmas.Bool.Decides.{nat_tests}
@@ -21,12 +21,15 @@ use Rattle.re_terms.specs.Shapes.{FitsShape, shape_of}
 use Rattle.re_terms.specs.Spellings.{packet_bytes}
 use Rattle.re_terms.specs.UpdateStates.{join_states, state_of_updates}
 use Rattle.re_terms.specs.Updates.{Update}
+use Rattle.re_terms.specs.declared.command.Command.TheVariants as command
 use Rattle.re_terms.specs.declared.program.Program.{Program}
 use Rattle.re_terms.specs.declared.replicated.RState.{RState}
 use Rattle.re_world.proofs.Within.{part_at}
+use Rattle.re_world.specs.Causes.{Merges}
 use Rattle.re_world.specs.FileSteps.{IsPacketState}
 use Rattle.re_world.specs.Standing.{IsWorldOf}
-use Rattle.re_world.specs.State.{IsPacket, WorldState}
+use Rattle.re_world.specs.State.{IsKept, IsPacket, WorldState, state_of}
+use Rattle.re_world.specs.declared.world.World.TheInside.{Inside}
 
 -- what stands in a mapped list stands for one of the list
 pub mapped_at : {X Y : Type 0} (f : X → Y) (xs : List X) (k : ℕ) (y : Y) → slice_get (map f xs) k ≡ Some y → (x : X) × (slice_get xs k ≡ Some x) × (y ≡ f x)
@@ -123,6 +126,13 @@ kept_at v kept k bytes same at = ap (λ l. slice_get l k) same ∙ through kept 
         some_is : Some x ≡ Some bytes → x ≡ bytes
         some_is h = cc
     through (x ∷ xs) (suc i) e = through xs i e
+
+-- a packet that is kept has a state
+pub kept_state : (w : Inside) (v : WorldState) (k d : ℕ) (bytes : Listed ℕ) → state_of w ≡ v → IsKept w → slice_get w.packets.items k ≡ Some bytes → (state : RState) × Merges v (command.Deliver k d) state
+kept_state w v k d bytes view kept at =
+    let own = kept_at (state_of w) w.packets.items k bytes refl at in
+    let packet : IsPacket w.program bytes.items = all_at (IsPacket w.program) (state_of w).packets k bytes.items kept.packets own in
+    subst (λ u. (state : RState) × Merges u (command.Deliver k d) state) view (packet.0, λ below. record { fits = packet.1; bytes = own ∙ ap Some packet.2 })
 
 -- they are short
 pub packet_short : (p : Program) (bytes : List ℕ) → IsProgram p → IsPacket p bytes → length bytes < 2 ^ 32

@@ -8,7 +8,7 @@ use Rattle.re_device.specs.Device.{DeviceState}
 use Rattle.re_device.specs.Stepping.{IsDeviceOf, answered_as, fared_as, refused_as}
 use Rattle.re_device.specs.declared.fault.DeviceFault.{DeviceFault}
 use Rattle.re_device.specs.declared.fault.DeviceFault.TheVariants as fault
-use Rattle.re_outside.specs.Outside.{Disk, FaultKind, Faults, Input, Output, Rose, Seen, is_kind}
+use Rattle.re_outside.specs.Outside.{Disk, Input, Output, Rose, Seen}
 use Rattle.re_outside.specs.Port.{disk_faults, other_faults, past_in}
 use Rattle.re_outside.specs.Trace.{IsCrashImageOf, content_of}
 use Rattle.re_print.specs.AnswerTexts.{AscendsWhereSet}
@@ -19,17 +19,21 @@ use Rattle.re_terms.specs.Lines.{may_have_entered}
 use Rattle.re_terms.specs.Worlds.{PlainAnswer, plain_answer}
 use Rattle.re_terms.specs.declared.command.Answer.{Answer}
 use Rattle.re_terms.specs.declared.command.Command.{Command}
+use Rattle.re_terms.specs.declared.command.Command.TheVariants as command
 use Rattle.re_terms.specs.declared.entry.Logged.{Logged}
 use Rattle.re_terms.specs.declared.program.Program.{Program}
 use Rattle.re_world.proofs.CommitSteps.{answered_steps}
 use Rattle.re_world.proofs.Committed.{IsCommit}
 use Rattle.re_world.proofs.FilesMade.{commits_by}
+use Rattle.re_world.proofs.Staying.{no_store, no_store_by, no_store_told, tells_of_store}
+use Rattle.re_world.proofs.Taken.{refuses, takes_refused}
 use Rattle.re_world.specs.Calls.{Commits, Leaves}
 use Rattle.re_world.specs.Causes.{HasCause}
 use Rattle.re_world.specs.FileSteps.{CommitsBy, HasFileSteps, Writes, is_disk_refusal}
 use Rattle.re_world.specs.Standing.{HasDevice, IsWorldOf}
 use Rattle.re_world.specs.State.{WorldState, device_in}
-use Rattle.re_world.specs.Stepping.{CountsBy, CountsIf, DoesCommand, Fails, HasStepped, IsLeftStopped, Keeps, NoneRose, OwnRose, RestoresWithin, Shows, StopsAs}
+use Rattle.re_world.specs.Stepping.{CountsBy, CountsIf, DoesCommand, Fails, HasStepped, IsLeftStopped, IsStoreRefusal, Keeps, NoneRose, OwnRose, RestoresWithin, Shows, StopsAs}
+use Rattle.re_world.specs.Taking.{Takes}
 
 -- ---- counts
 
@@ -71,6 +75,7 @@ pub record CommitFacts {T : Type 0} (P : Program → World → Type 0) (done : T
   pub enters : (y : T) → may_have_entered (done y) ≡ true
   pub calm : (y : T) → (is_disk_refusal (done y) ≡ false) × (is_refusal (done y) ≡ false)
   pub leaves : Leaves x x' r
+  pub takes : (y : T) → r ≡ Ok y → Takes old new (c n) (done y)
   pub caused : HasCause old (c n) (answered_as done r)
   pub same : x' ≡ x → new ≡ old
   pub writes : Writes old (c n) x entries
@@ -121,6 +126,20 @@ module _ {T : Type 0} (P : Program → World → Type 0) (done : T → PlainAnsw
     shows_by b reads (Err fault.SetFull) same cause = none cause
     shows_by b reads (Err fault.CounterFull) same cause = none cause
     shows_by b reads (Err fault.DotsSpent) same cause = none cause
+
+    other_by : (q : Result T DeviceFault) → tells_of_store (answered_as done q) ≡ false
+    other_by (Ok y) = no_store_told (done y) (facts.calm y).1
+    other_by (Err f) = no_store_by f
+
+    stores : IsStoreRefusal (plain_answer a) → (d : ℕ) × (c n ≡ command.Restart d)
+    stores is = absurd (no_store (plain_answer a) (ap tells_of_store facts.answer ∙ other_by r) is)
+
+    takes_by : (q : Result T DeviceFault) → r ≡ q → Takes old new (c n) (answered_as done q)
+    takes_by (Ok y) same = facts.takes y same
+    takes_by (Err f) same = takes_refused old new (c n) (refused_as f) (refuses f)
+
+    takes : Takes old new (c n) (plain_answer a)
+    takes = subst (Takes old new (c n)) (sym facts.answer) (takes_by r refl)
 
     -- ---- what stays
 
@@ -208,6 +227,8 @@ module _ {T : Type 0} (P : Program → World → Type 0) (done : T → PlainAnsw
     caused = subst (HasCause old (c x.memory.device)) (sym facts.answer) facts.caused;
     ascends = facts.ascends;
     counts = subst (λ q. CountsBy (c x.memory.device) q before now) (sym facts.answer) (counts_by x.memory.device facts r facts.cause);
+    takes = takes x.memory.device facts;
+    stores = stores x.memory.device facts;
     left = facts.left;
     files = own_files facts;
     stepped = own_stepped facts;

@@ -1,5 +1,5 @@
 -- A call that commits makes the file calls of its command, and the device counts them.
-use Rattle.std.proofs.Common.{◌≡◌, ◌<◌, ◌+◌, ◌++◌, ◌∷◌, [], ℕ, List, Option, Some, None, Result, Ok, Err, length, refl, sym, ap, subst, ◌∙◌, arith, length-append}
+use Rattle.std.proofs.Common.{◌≡◌, ◌<◌, ◌++◌, ◌∷◌, [], ℕ, List, Option, Some, None, Result, Ok, Err, length, refl, sym, ap, subst, ◌∙◌, arith, length-append}
 use Rattle.std.specs.Prelude.{false, ◌≢◌, option_map}
 use Rattle.std.proofs.lemmas.List.{append-nil}
 use Rattle.re_compact.proofs.Committing.{prepare_count}

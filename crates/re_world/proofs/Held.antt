@@ -25,7 +25,7 @@ use Rattle.re_terms.specs.Vectors.{covers}
 use Rattle.re_terms.specs.UpdateStates.{state_of_updates}
 use Rattle.re_terms.specs.declared.program.Program.{Program}
 use Rattle.re_terms.specs.declared.replicated.RState.{RState}
-use Rattle.re_world.specs.Images.{OpensAfter, OpensToLine, Restores, log_held, updates_held}
+use Rattle.re_world.specs.Images.{MayHold, OpensAfter, OpensToLine, Restores, log_held, updates_held}
 
 -- ---- entries that may come next
 
@@ -141,14 +141,14 @@ abbrev held_by : {P Q : Type 0} → P ⊎ Q → ℕ → ℕ
 held_by (inl a) n = 0
 held_by (inr b) n = n
 
-held_whole : {P Q : Type 0} (c : P ⊎ Q) (n : ℕ) → (held_by c n ≡ 0) ⊎ (held_by c n ≡ n)
+held_whole : {P M Q : Type 0} (c : P ⊎ (M × Q)) (n : ℕ) → (held_by c n ≡ 0) ⊎ ((held_by c n ≡ n) × M)
 held_whole (inl a) n = inl refl
-held_whole (inr b) n = inr refl
+held_whole (inr b) n = inr (refl, b.0)
 
 -- files that open to the line's one front or the other open to the front that is held
-held_opens : (p : Program) (w : World) (d : ℕ) (first second : List ℕ) (more : List PlainEntry) (c : OpensAfter p w d first second (w.settled d) ⊎ OpensAfter p w d first second (w.settled d ++ more)) → OpensAfter p w d first second (w.settled d ++ take (held_by c (length more)) more)
+held_opens : {M : Type 0} (p : Program) (w : World) (d : ℕ) (first second : List ℕ) (more : List PlainEntry) (c : OpensAfter p w d first second (w.settled d) ⊎ (M × OpensAfter p w d first second (w.settled d ++ more))) → OpensAfter p w d first second (w.settled d ++ take (held_by c (length more)) more)
 held_opens p w d first second more (inl a) = subst (OpensAfter p w d first second) (sym (append-nil (w.settled d))) a
-held_opens p w d first second more (inr b) = subst (λ l. OpensAfter p w d first second (w.settled d ++ l)) (sym (take-length more)) b
+held_opens p w d first second more (inr b) = subst (λ l. OpensAfter p w d first second (w.settled d ++ l)) (sym (take-length more)) b.1
 
 pub restores : (p : Program) (w : World) (under_way : Option Done) (files : ℕ → ℕ → List ℕ) → IsCausalWorld (device_count p.decls.items) w → ((d : ℕ) → AllFit w.log (entry_under_way p w under_way d)) → ((d : ℕ) → d < device_count p.decls.items → OpensToLine p w under_way d (files d 0) (files d 1)) → Restores p w under_way files
 restores p w under_way files causal own each = record {
@@ -169,11 +169,11 @@ restores p w under_way files causal own each = record {
     more : ℕ → ℕ
     more d = held d (cases_lt d (device_count p.decls.items))
 
-    whole_by : (d : ℕ) (c : (d < device_count p.decls.items) ⊎ (device_count p.decls.items ≤ d)) → (held d c ≡ 0) ⊎ (held d c ≡ length (further p w under_way d))
+    whole_by : (d : ℕ) (c : (d < device_count p.decls.items) ⊎ (device_count p.decls.items ≤ d)) → (held d c ≡ 0) ⊎ ((held d c ≡ length (further p w under_way d)) × MayHold p w under_way d)
     whole_by d (inl below) = held_whole (each d below) (length (further p w under_way d))
     whole_by d (inr above) = inl refl
 
-    whole : (d : ℕ) → d < device_count p.decls.items → (more d ≡ 0) ⊎ (more d ≡ length (further p w under_way d))
+    whole : (d : ℕ) → d < device_count p.decls.items → (more d ≡ 0) ⊎ ((more d ≡ length (further p w under_way d)) × MayHold p w under_way d)
     whole d below = whole_by d (cases_lt d (device_count p.decls.items))
 
     opens_by : (d : ℕ) → d < device_count p.decls.items → (c : (d < device_count p.decls.items) ⊎ (device_count p.decls.items ≤ d)) → OpensAfter p w d (files d 0) (files d 1) (w.settled d ++ take (held d c) (further p w under_way d))

@@ -1,47 +1,31 @@
 -- Commands that call nothing outside and are done.
-use Rattle.std.proofs.Common.{◌≡◌, ◌⊎◌, inl, inr, ◌<◌, ◌≤◌, ◌+◌, ◌++◌, ◌∷◌, [], ℕ, List, Option, Some, None, Result, Ok, Err, length, refl, sym, ap, subst, ◌∙◌, arith}
-use Rattle.std.specs.Prelude.{Bool, false, true, not, map, ◌≢◌, ◌==◌, OnOk, if◌then◌else◌, nat_le, slice_set, unwrap_or}
+use Rattle.std.proofs.Common.{◌≡◌, inl, inr, ◌<◌, ◌++◌, [], ℕ, Some, None, refl, sym, ap, subst, ◌∙◌}
+use Rattle.std.specs.Prelude.{false, not, map, ◌≢◌, ◌==◌, if◌then◌else◌, slice_set, unwrap_or}
 use Rattle.std.specs.List.{All}
-use Rattle.std.specs.Option.{option_map_or, option_or}
+use Rattle.std.specs.Option.{option_map_or}
 use mathlib.Core.Bool.{true≢false}
-use Rattle.std.proofs.lemmas.Bool.Decides.{nat_tests}
-use Rattle.std.proofs.lemmas.List.{map-append}
-use Rattle.re_device.proofs.Opening.{shown_packet_is, shown_set_is, shown_word_is}
-use Rattle.re_device.specs.Device.{DeviceMemory, DeviceState, current}
-use Rattle.re_compact.specs.Pair.{StandsIn}
-use Rattle.re_device.specs.Standing.{StandsSettled}
-use Rattle.re_journal.specs.declared.journal.Journal.{Journal}
-use Rattle.re_outside.specs.Frame.{Store}
-use Rattle.re_record.specs.Stores.{ComesTo}
+use Rattle.re_device.specs.Device.{DeviceState}
 use Rattle.re_print.specs.AnswerTexts.{AscendsWhereSet}
-use Rattle.re_device.specs.Stepping.{IsDeviceOf, StepsTo, applied_as, fared_as}
-use Rattle.re_device.specs.declared.fault.DeviceFault.{DeviceFault}
-use Rattle.re_device.specs.declared.fault.DeviceFault.TheVariants as fault
 use Rattle.re_outside.specs.Outside.{Seen}
 use Rattle.re_outside.specs.Port.{past_in}
 use Rattle.re_outside.specs.Trace.{Past}
 use Rattle.re_terms.proofs.CausalSteps.{stepped}
 use Rattle.re_terms.proofs.WorldSteps.{done_after, others_kept, with_at-same}
 use Rattle.re_terms.specs.Admission.{IsCommandOf, device_count}
-use Rattle.re_terms.specs.CausalWorlds.{IsCausalWorld}
-use Rattle.re_terms.specs.DeviceWorlds.{Fine, Outcome, World, apply, device_of, done_answer, done_world, fared_answer, fared_world, outcome_of, put_down, recovered, refusal, reply, settled_taken, spelled, world_after}
-use Rattle.re_terms.specs.Entries.{PlainEntry, run_entries}
-use Rattle.re_terms.specs.Runs.{PlainState, StandsForPlain}
+use Rattle.re_terms.specs.DeviceWorlds.{Fine, Outcome, World, device_of, done_answer, done_world, fared_answer, outcome_of, put_down, recovered, refusal, reply, spelled, world_after}
 use Rattle.re_terms.specs.Shapes.{FitsShape, shape_of}
 use Rattle.re_terms.specs.UpdateStates.{state_of_updates}
-use Rattle.re_terms.specs.Updates.{Update}
-use Rattle.re_terms.specs.Worlds.{Down, PlainAnswer, plain_answer}
+use Rattle.re_terms.specs.Worlds.{Down, plain_answer}
 use Rattle.re_terms.specs.declared.command.Answer.{Answer}
 use Rattle.re_terms.specs.declared.command.Answer.TheVariants as answer
 use Rattle.re_terms.specs.declared.command.Command.{Command}
 use Rattle.re_terms.specs.declared.command.Command.TheVariants as command
-use Rattle.re_terms.specs.declared.entry.Admitted.{Admitted}
 use Rattle.re_terms.specs.declared.program.Program.{Program}
 use Rattle.re_world.proofs.Agreeing.{opens_in}
 use Rattle.re_world.proofs.Inside.{device_has, stop_first}
 use Rattle.re_world.proofs.Placed.{none_taken, place_below, place_elsewhere, place_here}
-use Rattle.re_world.proofs.Caused.{caused_free, device_is, found_up}
-use Rattle.re_world.proofs.Staying.{counts_still, keeps_done, keeps_still}
+use Rattle.re_world.proofs.Caused.{any_state, caused_free, device_is, found_up}
+use Rattle.re_world.proofs.Staying.{counts_still, keeps_done, keeps_still, no_store, tells_of_store}
 use Rattle.re_world.proofs.Stepped.{world_behind}
 use Rattle.re_world.proofs.Within.{within_still}
 use Rattle.re_world.specs.Causes.{HasCause}
@@ -49,6 +33,7 @@ use Rattle.re_world.specs.FileSteps.{HasFileSteps, is_disk_refusal}
 use Rattle.re_world.specs.Standing.{HasDevice, IsWorldOf, RestsAs}
 use Rattle.re_world.specs.State.{WorldState, device_in}
 use Rattle.re_world.specs.Stepping.{DoesInside, Keeps, Shows}
+use Rattle.re_world.specs.Taking.{Takes}
 
 -- the worlds have the same of what the files of a device hold
 pub record HoldsAlike (n : ℕ) (w u : World) : Type 0 where
@@ -93,12 +78,14 @@ module _ (p : Program) (w : World) (old new : WorldState) (s : Seen) (c : Comman
       (back (λ x. HasDevice p x n (device_in new n) (past_in n s)) has)
 
 -- a command that calls nothing outside does all that a command does
-pub done_does : (old new : WorldState) (c : Command) (a : Answer) → AscendsWhereSet a → is_disk_refusal (plain_answer a) ≡ false → Keeps old new c (plain_answer a) → HasCause old c (plain_answer a) → ((s : Seen) → HasFileSteps old new c (plain_answer a) s s) → (o : Outcome) → ((s : Seen) → Shows old new c o s s) → ((p : Program) (w : World) (s : Seen) → IsWorldOf p w old s → plain_answer a ≡ reply p w c o) → ((p : Program) (w : World) (s : Seen) → IsWorldOf p w old s → IsWorldOf p (world_after p w c o) new s) → DoesInside old new c a
-done_does old new c a ascends calm keeps caused files o shows answers world tells s = record {
+pub done_does : (old new : WorldState) (c : Command) (a : Answer) → AscendsWhereSet a → is_disk_refusal (plain_answer a) ≡ false → tells_of_store (plain_answer a) ≡ false → Takes old new c (plain_answer a) → Keeps old new c (plain_answer a) → HasCause old c (plain_answer a) → ((s : Seen) → HasFileSteps old new c (plain_answer a) s s) → (o : Outcome) → ((s : Seen) → Shows old new c o s s) → ((p : Program) (w : World) (s : Seen) → IsWorldOf p w old s → plain_answer a ≡ reply p w c o) → ((p : Program) (w : World) (s : Seen) → IsWorldOf p w old s → IsWorldOf p (world_after p w c o) new s) → DoesInside old new c a
+done_does old new c a ascends calm other takes keeps caused files o shows answers world tells s = record {
   keeps = keeps;
   caused = caused;
   ascends = ascends;
   counts = counts_still c (plain_answer a) s calm;
+  takes = takes;
+  stores = λ is. absurd (no_store (plain_answer a) other is);
   left = λ told. refl;
   files = λ told. files s;
   stepped = λ told. record {
@@ -111,9 +98,9 @@ done_does old new c a ascends calm keeps caused files o shows answers world tell
 }
 
 -- one that only tells something leaves the world
-pub told_does : (v : WorldState) (c : Command) (a : Answer) → AscendsWhereSet a → is_disk_refusal (plain_answer a) ≡ false → HasCause v c (plain_answer a) → ((s : Seen) → HasFileSteps v v c (plain_answer a) s s) → ((w : World) → done_world w c ≡ w) → ((p : Program) (w : World) (s : Seen) → IsWorldOf p w v s → (refusal p w c ≡ None) × (plain_answer a ≡ done_answer p w c)) → DoesInside v v c a
-told_does v c a ascends calm caused files same told =
-    done_does v v c a ascends calm (keeps_still v c (plain_answer a) calm) caused files Fine (λ s kind. refl)
+pub told_does : (v : WorldState) (c : Command) (a : Answer) → AscendsWhereSet a → is_disk_refusal (plain_answer a) ≡ false → tells_of_store (plain_answer a) ≡ false → Takes v v c (plain_answer a) → HasCause v c (plain_answer a) → ((s : Seen) → HasFileSteps v v c (plain_answer a) s s) → ((w : World) → done_world w c ≡ w) → ((p : Program) (w : World) (s : Seen) → IsWorldOf p w v s → (refusal p w c ≡ None) × (plain_answer a ≡ done_answer p w c)) → DoesInside v v c a
+told_does v c a ascends calm other takes caused files same told =
+    done_does v v c a ascends calm other takes (keeps_still v c (plain_answer a) calm) caused files Fine (λ s kind. refl)
     (λ p w s is. (told p w s is).1 ∙ sym (replied p w c (told p w s is).0))
     (λ p w s is. subst (λ u. IsWorldOf p u v s) (sym (done_after p w c (told p w s is).0 ∙ same w)) is)
 
@@ -128,9 +115,10 @@ module _ (old : WorldState) (n : ℕ) (of : IsCommandOf old.program (command.Cra
   -- a device that is up is put down
   pub crash_does : (new : WorldState) (x : DeviceState) → device_in old n ≡ Some x → new ≡ record old { devices = slice_set old.devices n None } → DoesInside old new (command.Crash n) answer.Down
   crash_does new x place is_new =
-      done_does old new (command.Crash n) answer.Down tt refl
+      done_does old new (command.Crash n) answer.Down tt refl refl
+      (record { device = n; command_is = refl; down = ap (λ (v : WorldState). device_in v n) is_new ∙ place_here old.devices n None (place_below old.devices n x place) })
       (keeps_done old new (command.Crash n) Down refl (ap (λ (v : WorldState). v.program) is_new) (λ d other. ap (λ (v : WorldState). device_in v d) is_new ∙ place_elsewhere old.devices n d None (λ same. other (ap Some (sym same)))) (λ is. absurd (true≢false (sym is))))
-      (caused_free old (command.Crash n) Down refl (λ state merges. device_is old (command.Crash n) refl state x (found_up old n x place) refl place)) (λ s. refl) Fine (λ s kind. refl)
+      (caused_free old (command.Crash n) Down (any_state old, tt) refl (λ state merges. device_is old (command.Crash n) refl state x (found_up old n x place) refl place)) (λ s. refl) Fine (λ s kind. refl)
       (λ p w s is. sym (replied p w (command.Crash n) (crash_unrefused p w s x is place)))
       (λ p w s is.
       done_behind p w old new s (command.Crash n) n is (subst (λ q. IsCommandOf q (command.Crash n)) is.program of) (subst (λ (q : Program). n < device_count q.decls.items) is.program of) refl

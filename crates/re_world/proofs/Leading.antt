@@ -1,13 +1,13 @@
 -- What the record of a command leads to, and what a call that commits leaves of a device.
-use Rattle.std.proofs.Common.{◌≡◌, ◌+◌, ◌++◌, ◌∷◌, [], ℕ, List, Option, Some, Result, Ok, Err, length, refl, sym, ap, subst, ◌∙◌, arith}
-use Rattle.std.specs.Prelude.{OnOk, option_map, slice_get}
+use Rattle.std.proofs.Common.{◌≡◌, ◌+◌, ◌++◌, ◌∷◌, [], ℕ, List, Option, Result, Ok, Err, length, refl, sym, ap, subst, ◌∙◌, arith}
+use Rattle.std.specs.Prelude.{OnOk, option_map}
 use Rattle.std.proofs.lemmas.List.{length-append}
 use Rattle.re_device.proofs.PlainEntries.{merge_plain, more_is, state_more, turn_plain}
 use Rattle.re_device.specs.Device.{DeviceMemory, DeviceState, current, logged, with_entry}
-use Rattle.re_device.specs.Stepping.{IsDeviceOf, IsPacketOf, IsPlainly}
+use Rattle.re_device.specs.Stepping.{IsPacketOf, IsPlainly}
 use Rattle.re_device.specs.declared.fault.DeviceFault.{DeviceFault}
 use Rattle.re_record.specs.Restoring.{Opened}
-use Rattle.re_terms.specs.DeviceWorlds.{World, entries_of, last_number, record_of, settled_number}
+use Rattle.re_terms.specs.DeviceWorlds.{entries_of, record_of, settled_number}
 use Rattle.re_terms.specs.Entries.{Merge, PlainEntry, run_entries, turn_entry}
 use Rattle.re_terms.specs.Runs.{PlainState}
 use Rattle.re_terms.specs.Updates.{Update}

@@ -22,6 +22,7 @@ pub mod Sent
 pub mod Started
 pub mod Staying
 pub mod Stepped
+pub mod Taken
 pub mod Told
 pub mod Unmoved
 pub mod Unsettled

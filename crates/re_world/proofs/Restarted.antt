@@ -31,8 +31,8 @@ use Rattle.re_terms.specs.declared.command.Command.TheVariants as command
 use Rattle.re_terms.specs.declared.program.Program.{Program}
 use Rattle.re_world.proofs.Committed.{standing_rests}
 use Rattle.re_world.proofs.Stepped.{world_behind}
-use Rattle.re_world.proofs.Within.{within_moves}
-use Rattle.re_world.specs.Images.{OpensAfter}
+use Rattle.re_world.proofs.Within.{some_in_doubt, within_moves}
+use Rattle.re_world.specs.Images.{MayHold, OpensAfter}
 use Rattle.re_world.specs.Opening.{IsOpened}
 use Rattle.re_world.specs.Standing.{HasDevice, IsWorldOf, RestsAs}
 use Rattle.re_world.specs.State.{WorldState, device_in}
@@ -89,12 +89,12 @@ module _ (p : Program) (w : World) (v : WorldState) (n : ℕ) (before now : Seen
   pub restart_restores : (o : Outcome) → RestoresWithin p w (command.Restart n) o before now
   restart_restores o =
       within_moves p w v (command.Restart n) o before now is n (StillOpens p n old_past) moments (λ m still. still.others)
-      (λ there m still first second a b. by_doubt (w.in_doubt n) (images_rest (as_device n m) still first second a b))
+      (λ there m still first second a b. by_doubt (w.in_doubt n) refl (images_rest (as_device n m) still first second a b))
     where
-      by_doubt : {first second : List ℕ} (l : List PlainEntry) → OpensAfter p w n first second (w.settled n) ⊎ OpensAfter p w n first second (w.settled n ++ l) → OpensAfter p w n first second (w.settled n) ⊎ OpensAfter p w n first second (w.settled n ++ first_filled l (w.unsettled n ++ entry_under_way p w (Some (record { asked = command.Restart n; outcome = o })) n))
-      by_doubt l (inl settled) = inl settled
-      by_doubt [] (inr held) = inl (subst (OpensAfter p w n _ _) (append-nil (w.settled n)) held)
-      by_doubt (e ∷ l) (inr held) = inr held
+      by_doubt : {first second : List ℕ} (l : List PlainEntry) → w.in_doubt n ≡ l → OpensAfter p w n first second (w.settled n) ⊎ OpensAfter p w n first second (w.settled n ++ l) → OpensAfter p w n first second (w.settled n) ⊎ (MayHold p w (Some (record { asked = command.Restart n; outcome = o })) n × OpensAfter p w n first second (w.settled n ++ first_filled l (w.unsettled n ++ entry_under_way p w (Some (record { asked = command.Restart n; outcome = o })) n)))
+      by_doubt l is (inl settled) = inl settled
+      by_doubt [] is (inr held) = inl (subst (OpensAfter p w n _ _) (append-nil (w.settled n)) held)
+      by_doubt (e ∷ l) is (inr held) = inr (inl (some_in_doubt (w.in_doubt n) e l is), held)
 
   agrees : (o : Outcome) (e : ℕ) → (e == n) ≡ false → IsUntouched e w (world_after p w (command.Restart n) o)
   agrees o e other = others_kept p w (command.Restart n) o e other

@@ -19,20 +19,21 @@ use Rattle.re_record.specs.Stores.{HasStore, OpensTo, Stored}
 use Rattle.re_restore.specs.Opening.{HasRestoreCause, StillOpens}
 use Rattle.re_terms.proofs.WorldSteps.{done_after}
 use Rattle.re_terms.specs.Admission.{device_count}
-use Rattle.re_terms.specs.DeviceWorlds.{BadStore, Failed, Fine, Memory, OtherProgram, Outcome, World, device_of, fared_answer, outcome_of, put_up, recovered, refusal, refused_where, reply, settled_number, world_after}
+use Rattle.re_terms.specs.DeviceWorlds.{BadStore, Failed, Fine, Memory, OtherProgram, Outcome, World, device_of, fared_answer, is_refusal, outcome_of, put_up, recovered, refusal, refused_where, reply, settled_number, world_after}
 use Rattle.re_terms.specs.Programs.{IsProgram}
 use Rattle.re_terms.specs.Worlds.{PlainAnswer, Refused, Up, plain_answer}
 use Rattle.re_terms.specs.declared.command.Answer.{Answer}
 use Rattle.re_terms.specs.declared.command.Answer.TheVariants as answer
 use Rattle.re_terms.specs.declared.command.Command.TheVariants as command
 use Rattle.re_terms.specs.declared.program.Program.{Program}
-use Rattle.re_world.proofs.Caused.{caused_as, caused_free}
+use Rattle.re_world.proofs.Caused.{any_state, caused_as, caused_free}
 use Rattle.re_world.proofs.Doing.{none_rose}
 use Rattle.re_world.proofs.Inside.{device_has, refused_does, stop_first, up_first}
 use Rattle.re_world.proofs.InsideDone.{replied}
 use Rattle.re_world.proofs.OpeningSteps.{steps_handed}
 use Rattle.re_world.proofs.Restarted.{entry_is, opened_world, restart_restores, unopened_world}
 use Rattle.re_world.proofs.Staying.{keeps_done}
+use Rattle.re_world.proofs.Taken.{refuses_opening, takes_refused}
 use Rattle.re_world.specs.Causes.{HasCause, device_refusal}
 use Rattle.re_world.specs.FileSteps.{HasFileSteps, RestartsFrom, unopened_as}
 use Rattle.re_world.specs.Opening.{HasOpeningSteps, IsOpened, IsOpeningAnswer}
@@ -45,13 +46,13 @@ use Rattle.re_world.specs.Stepping.{CountsBy, DoesCommand, DoesInside, IsLeftSto
 -- a device that is up is refused for that
 up_caused : (v : WorldState) (n : ℕ) (x : DeviceState) → device_in v n ≡ Some x → HasCause v (command.Restart n) (Refused 27)
 up_caused v n x place =
-    caused_as v (command.Restart n) (Refused 27)
+    caused_as v (command.Restart n) (Refused 27) (any_state v, tt)
     (λ state merges. ap (λ o. option_or (refused_where (option_map_or (λ (y : DeviceState). true) o false) 27) (option_and_then (device_refusal v state (command.Restart n)) o)) place)
 
 -- one that is down is refused for nothing in memory
 down_caused : (v : WorldState) (n : ℕ) (a : PlainAnswer) → device_in v n ≡ None → is_caused a ≡ false → HasCause v (command.Restart n) a
 down_caused v n a place free =
-    caused_free v (command.Restart n) a free
+    caused_free v (command.Restart n) a (any_state v, tt) free
     (λ state merges. ap (λ o. option_or (refused_where (option_map_or (λ (y : DeviceState). true) o false) 27) (option_and_then (device_refusal v state (command.Restart n)) o)) place)
 
 -- no refusal of an opening is for what is in memory
@@ -79,7 +80,7 @@ opened_number p n x number opened number_is = ap (λ (m : DeviceMemory). m.settl
 -- the device is up already
 pub up_does : (v : WorldState) (n : ℕ) (x : DeviceState) → n < device_count v.program.decls.items → device_in v n ≡ Some x → DoesInside v v (command.Restart n) (answer.No 27)
 up_does v n x below place =
-    refused_does v (command.Restart n) (answer.No 27) tt refl refl (up_caused v n x place)
+    refused_does v (command.Restart n) (answer.No 27) tt refl refl refl (up_caused v n x place)
     (λ s. subst (λ o. RestartsFrom o v.program v n (Refused 27) (past_in n s) (past_in n s)) (sym place) refl)
     (λ p w s is. let has = device_has p w v s n (Some x) is below place in up_first p w (command.Restart n) refl refl (ap w.up (sym has.1) ∙ has.0.up))
 
@@ -180,6 +181,8 @@ module _ (tells : Bool) (v : WorldState) (n : ℕ) (before now : Seen) (facts : 
       files = restarts;
       ascends = ascends;
       counts = subst (λ q. CountsBy (command.Restart n) q before now) (sym replies) (counts_by f cause);
+      takes = takes_refused v v (command.Restart n) (plain_answer a) (ap is_refusal replies ∙ refuses_opening f);
+      stores = λ is. (n, refl);
       left = facts.left;
       stepped = λ told. record {
         outcome = fared_opening f;
@@ -228,6 +231,8 @@ module _ (tells : Bool) (v : WorldState) (n : ℕ) (before now : Seen) (facts : 
       files = restarted;
       ascends = tt;
       counts = none own;
+      takes = record { device = n; command_is = refl; after = x; place_after = place; opened = opened; number_is = number_is };
+      stores = λ is. (n, refl);
       left = facts.left;
       stepped = λ told. record {
         outcome = Fine;

@@ -1,6 +1,6 @@
 -- A packet is made of what a device has settled.
-use Rattle.std.proofs.Common.{◌≡◌, ◌<◌, ◌≤◌, ◌+◌, ◌++◌, ◌∷◌, [], ℕ, List, Option, Some, None, length, refl, sym, ap, subst, ◌∙◌, arith}
-use Rattle.std.specs.Prelude.{Bool, false, true, ◌≢◌, map, nat_le, option_and_then, slice_get}
+use Rattle.std.proofs.Common.{◌≡◌, ◌<◌, ◌≤◌, ◌++◌, ◌∷◌, [], ℕ, List, Option, Some, None, length, refl, sym, ap, subst, ◌∙◌, arith}
+use Rattle.std.specs.Prelude.{false, true, map, nat_le}
 use Rattle.std.specs.List.{All}
 use Rattle.std.specs.Option.{option_or}
 use mathlib.Core.Bool.{true≢false}
@@ -17,25 +17,24 @@ use Rattle.re_outside.specs.Port.{past_in}
 use Rattle.re_terms.proofs.WorldEffects.{settled-taken}
 use Rattle.re_terms.proofs.WorldSteps.{done_after}
 use Rattle.re_terms.specs.Admission.{IsCommandOf, device_count}
-use Rattle.re_terms.specs.DeviceWorlds.{Fine, World, refusal, refused_where, settled_taken, spelled, world_after}
+use Rattle.re_terms.specs.DeviceWorlds.{Fine, World, refusal, refused_where, settled_taken, spelled}
 use Rattle.re_terms.specs.Listed.{Listed}
 use Rattle.re_terms.specs.Shapes.{FitsShape, shape_of}
 use Rattle.re_terms.specs.Spellings.{packet_bytes}
 use Rattle.re_terms.specs.UpdateStates.{state_of_updates}
-use Rattle.re_terms.specs.Updates.{Update}
 use Rattle.re_terms.specs.Worlds.{Packet, PlainAnswer, Refused}
 use Rattle.re_terms.specs.declared.command.Answer.TheVariants as answer
 use Rattle.re_terms.specs.declared.command.Command.TheVariants as command
 use Rattle.re_terms.specs.declared.program.Program.{Program}
 use Rattle.re_terms.specs.declared.replicated.RState.{RState}
-use Rattle.re_world.proofs.Caused.{caused_as, caused_free, device_is, found_up}
+use Rattle.re_world.proofs.Caused.{any_state, caused_as, caused_free, device_is, found_up}
 use Rattle.re_world.proofs.Inside.{device_has, refused_before, unrefused}
 use Rattle.re_world.proofs.InsideDone.{done_behind, done_does, replied}
 use Rattle.re_world.proofs.Staying.{keeps_done}
 use Rattle.re_world.proofs.Told.{packet_count}
 use Rattle.re_world.specs.Causes.{refusal_in}
 use Rattle.re_world.specs.Standing.{HasDevice, IsWorldOf}
-use Rattle.re_world.specs.State.{AllPlaced, IsKept, IsPacket, IsPlaced, WorldState, device_in, state_of}
+use Rattle.re_world.specs.State.{IsKept, IsPacket, IsPlaced, WorldState, device_in, state_of}
 use Rattle.re_world.specs.Stepping.{DoesInside}
 use Rattle.re_world.specs.declared.world.World.TheInside.{Inside}
 
@@ -98,7 +97,7 @@ module _ (old : WorldState) (n : ℕ) (x : DeviceState) (of : IsCommandOf old.pr
   -- as many were made as there may be
   pub send_none : 10000 ≤ length old.packets → DoesInside old old (command.Send n) (answer.No 35)
   send_none many =
-      refused_before old (command.Send n) (answer.No 35) tt refl refl (caused_as old (command.Send n) (Refused 35) (λ state merges. sends state ∙ ap (λ b. option_or (refused_where b 35) None) (all_made many))) refl
+      refused_before old (command.Send n) (answer.No 35) tt refl refl refl (caused_as old (command.Send n) (Refused 35) (any_state old, tt) (λ state merges. sends state ∙ ap (λ b. option_or (refused_where b 35) None) (all_made many))) refl
       (λ p w s is. by_packets p w s is ∙ ap (λ b. option_or (refused_where b 35) None) (reached w (subst (λ m. 10000 ≤ m) (packet_count p w old s is) many)))
     where
       all_made : 10000 ≤ length old.packets → nat_le 10000 (length old.packets) ≡ true
@@ -136,9 +135,9 @@ module _ (old : WorldState) (n : ℕ) (x : DeviceState) (of : IsCommandOf old.pr
   -- the packet is made
   pub send_does : (new : WorldState) (bytes : List ℕ) (k : ℕ) → length old.packets < 10000 → FitsShape (shape_of x.memory.program) x.memory.settled.state.rep → bytes ≡ packet_bytes (shape_of x.memory.program).devices x.memory.settled.state.rep → new ≡ record old { packets = old.packets ++ bytes ∷ [] } → k ≡ length old.packets → DoesInside old new (command.Send n) (answer.Packet k)
   send_does new bytes k few fits spelt is_new number =
-      done_does old new (command.Send n) (answer.Packet k) tt refl
+      done_does old new (command.Send n) (answer.Packet k) tt refl refl (ap (λ (v : WorldState). v.devices) is_new)
       (keeps_done old new (command.Send n) (Packet k) refl (ap (λ (v : WorldState). v.program) is_new) (λ d other. ap (λ (v : WorldState). device_in v d) is_new) (λ is. absurd (true≢false (sym is))))
-      (caused_free old (command.Send n) (Packet k) refl (λ state merges. sends state ∙ ap (λ b. option_or (refused_where b 35) None) (fewer few)))
+      (caused_free old (command.Send n) (Packet k) (any_state old, tt) refl (λ state merges. sends state ∙ ap (λ b. option_or (refused_where b 35) None) (fewer few)))
       (λ s. refl) Fine (λ s kind. refl)
       (λ p w s is. ap Packet (number ∙ packet_count p w old s is) ∙ sym (replied p w (command.Send n) (send_unrefused p w s few is)))
       (λ p w s is.

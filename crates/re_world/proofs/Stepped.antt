@@ -1,6 +1,6 @@
 -- The world behind a command for one device, by what became of that device and its files.
-use Rattle.std.proofs.Common.{◌≡◌, ◌⊎◌, inl, inr, ◌<◌, ◌++◌, ℕ, List, Option, Some, None, refl, sym, ap, subst, ◌∙◌}
-use Rattle.std.specs.Prelude.{Bool, false, true, ◌==◌, ◌≢◌, map}
+use Rattle.std.proofs.Common.{◌≡◌, ◌⊎◌, inl, inr, ◌<◌, ℕ, Option, Some, None, sym, subst, ◌∙◌}
+use Rattle.std.specs.Prelude.{false, ◌==◌, ◌≢◌, map}
 use Rattle.std.specs.List.{All}
 use Rattle.std.proofs.lemmas.Bool.Decides.{eqb_tells}
 use Rattle.re_device.specs.Device.{DeviceState}

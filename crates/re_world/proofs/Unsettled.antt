@@ -1,14 +1,14 @@
 -- Turns in memory alone.
-use Rattle.std.proofs.Common.{◌≡◌, ◌<◌, ◌++◌, ◌∷◌, [], ℕ, List, Option, Some, None, Result, Ok, Err, length, refl, sym, ap, subst, ◌∙◌}
-use Rattle.std.specs.Prelude.{Bool, false, true, ◌≢◌, map, OnOk, slice_set}
+use Rattle.std.proofs.Common.{◌≡◌, ◌<◌, ◌+◌, ℕ, Option, Some, None, Result, Ok, Err, length, refl, sym, ap, subst, ◌∙◌}
+use Rattle.std.specs.Prelude.{IfOk, Bool, false, true, ◌≢◌, map, OnOk, slice_set}
 use Rattle.std.specs.List.{All}
 use Rattle.std.specs.Option.{option_map_or}
 use mathlib.Core.Bool.{true≢false}
 use Rattle.re_compact.specs.Pair.{StandsIn}
 use Rattle.re_device.specs.Causes.{IsCausedBy, unsettled_refusal}
-use Rattle.re_device.specs.Device.{DeviceState, with_entry}
+use Rattle.re_device.specs.Device.{DeviceState, current, logged, with_entry}
 use Rattle.re_device.specs.Standing.{StandsSettled}
-use Rattle.re_device.specs.Stepping.{IsDeviceOf, StepsTo, applied_as, fared_as, refused_as}
+use Rattle.re_device.specs.Stepping.{StepsTo, applied_as, fared_as, refused_as}
 use Rattle.re_device.specs.declared.fault.DeviceFault.{DeviceFault}
 use Rattle.re_device.specs.declared.fault.DeviceFault.TheVariants as fault
 use Rattle.re_journal.specs.declared.journal.Journal.{Journal}
@@ -32,16 +32,18 @@ use Rattle.re_terms.specs.declared.entry.Admitted.{Admitted}
 use Rattle.re_terms.specs.declared.entry.Entry.TheVariants as entry
 use Rattle.re_terms.specs.declared.entry.Logged.{Logged}
 use Rattle.re_terms.specs.declared.program.Program.{Program}
-use Rattle.re_world.proofs.Caused.{device_is, found_up}
+use Rattle.re_world.proofs.Caused.{any_state, device_is, found_up}
 use Rattle.re_world.proofs.Inside.{device_has}
 use Rattle.re_world.proofs.InsideDone.{HoldsAlike, done_does, inside_behind}
 use Rattle.re_world.proofs.Placed.{back_elsewhere, back_here, back_same, place_below}
-use Rattle.re_world.proofs.Staying.{keeps_done}
+use Rattle.re_world.proofs.Staying.{keeps_done, no_store_by, tells_of_store}
+use Rattle.re_world.proofs.Taken.{if_ok, on_ok, refuses, takes_refused}
 use Rattle.re_world.specs.Causes.{HasCause}
 use Rattle.re_world.specs.FileSteps.{is_disk_refusal}
 use Rattle.re_world.specs.Standing.{HasDevice, IsWorldOf}
 use Rattle.re_world.specs.State.{WorldState, device_in}
 use Rattle.re_world.specs.Stepping.{DoesInside, Keeps, Shows}
+use Rattle.re_world.specs.Taking.{Takes}
 
 -- ---- the device
 
@@ -165,6 +167,8 @@ pub record IsLazy (old new : WorldState) (n : ℕ) (x x' : DeviceState) (t : Adm
   pub back : new ≡ record old { devices = slice_set (slice_set old.devices n None) n (Some x') }
   pub answer : plain_answer a ≡ applied_as r
   pub steps : StepsTo x x' (command.Lazy x.memory.device t) (fared_as x'.journal.stopped false r) (applied_as r)
+  pub memory : OnOk r (x'.memory ≡ with_entry x.memory (logged x.memory (entry.Turn t.turn)))
+  pub entry_number : IfOk r (λ k. k ≡ (current x.memory).number + 1)
   pub journal : x'.journal ≡ x.journal
   pub generation : x'.generation ≡ x.generation
   pub own : KeepsOwn x x'
@@ -207,6 +211,35 @@ module _ (old new : WorldState) (n : ℕ) (x x' : DeviceState) (t : Admitted) (a
   calm : is_disk_refusal (plain_answer a) ≡ false
   calm = ap is_disk_refusal is.answer ∙ calm_by r is.never
 
+  other : tells_of_store (plain_answer a) ≡ false
+  other = ap tells_of_store is.answer ∙ by_result r
+    where
+      by_result : (q : Result ℕ DeviceFault) → tells_of_store (applied_as q) ≡ false
+      by_result (Ok m) = refl
+      by_result (Err f) = no_store_by f
+
+  lazy_takes : Takes old new (command.Lazy n t) (plain_answer a)
+  lazy_takes = subst (Takes old new (command.Lazy n t)) (sym is.answer) (by_result r refl)
+    where
+      by_result : (q : Result ℕ DeviceFault) → r ≡ q → Takes old new (command.Lazy n t) (applied_as q)
+      by_result (Ok m) same = record {
+        own = record {
+          number = n;
+          number_is = refl;
+          before = x;
+          place = is.place;
+          after = x';
+          place_after = ap (λ (v : WorldState). device_in v n) is.back ∙ back_here old.devices n None (Some x') below;
+        };
+        taken = entry.Turn t.turn;
+        taken_is = refl;
+        number_is = if_ok (λ k. k ≡ (current x.memory).number + 1) r m is.entry_number same;
+        memory = on_ok r m is.memory same;
+        journal = is.journal;
+        generation = is.generation;
+      }
+      by_result (Err f) same = takes_refused old new (command.Lazy n t) (refused_as f) (refuses f)
+
   lazy_keeps : Keeps old new (command.Lazy n t) (plain_answer a)
   lazy_keeps =
       keeps_done old new (command.Lazy n t) (plain_answer a) calm (ap (λ (v : WorldState). v.program) is.back)
@@ -214,13 +247,16 @@ module _ (old new : WorldState) (n : ℕ) (x x' : DeviceState) (t : Admitted) (a
       (λ refused. lazy_refused r refl (ap is_refusal (sym is.answer) ∙ refused))
 
   lazy_caused : HasCause old (command.Lazy n t) (plain_answer a)
-  lazy_caused state merges =
-      subst (λ o. IsCausedBy o (plain_answer a)) (sym (device_is old (command.Lazy n t) refl state x (found_up old n x is.place) refl is.place))
-      (subst (IsCausedBy (unsettled_refusal x (entry.Turn t.turn))) (sym is.answer) is.caused)
+  lazy_caused = (
+    any_state old,
+    tt,
+    subst (λ o. IsCausedBy o (plain_answer a)) (sym (device_is old (command.Lazy n t) refl (any_state old) x (found_up old n x is.place) refl is.place))
+        (subst (IsCausedBy (unsettled_refusal x (entry.Turn t.turn))) (sym is.answer) is.caused),
+  )
 
   -- it is a step of each world
   pub lazy_does : DoesInside old new (command.Lazy n t) a
   lazy_does =
-      done_does old new (command.Lazy n t) a (ascends_by a r is.answer) calm lazy_keeps lazy_caused (λ s. refl)
+      done_does old new (command.Lazy n t) a (ascends_by a r is.answer) calm other lazy_takes lazy_keeps lazy_caused (λ s. refl)
       (fared_as x'.journal.stopped false r) (λ s. shows_by old new (command.Lazy n t) s x'.journal.stopped r is.never)
       (λ p w s world. is.answer ∙ steps_here.answers p w (device_has p w old s n (Some x) world is.of.0 is.place).0 tt) lazy_world

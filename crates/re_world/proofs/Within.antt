@@ -1,13 +1,13 @@
 -- What a stop within a command leaves restores, by what it leaves of the files of the command's device.
 use Rattle.std.proofs.Common.{◌≡◌, ◌⊎◌, inl, inr, ◌<◌, ◌++◌, ◌∷◌, [], ℕ, zero, suc, List, Option, Some, None, refl, sym, ap, subst, ◌∙◌}
-use Rattle.std.specs.Prelude.{Bool, false, true, ◌==◌, ◌≢◌, if◌then◌else◌, option_map, slice_get}
+use Rattle.std.specs.Prelude.{Bool, false, true, ◌≢◌, if◌then◌else◌, option_map, slice_get}
 use Rattle.std.proofs.lemmas.List.{append-nil}
 use Rattle.re_outside.proofs.Elsewhere as elsewhere
 use Rattle.re_outside.proofs.Moments.{no_step, of_outside}
 use Rattle.re_outside.specs.Moment.{OnlyDeviceMoves, Throughout}
 use Rattle.re_outside.specs.Outside.{Seen}
 use Rattle.re_outside.specs.Port.{past_in}
-use Rattle.re_outside.specs.Trace.{IsBefore, IsCrashImageOf, IsJointImage, Past, as_device}
+use Rattle.re_outside.specs.Trace.{IsCrashImageOf, Past, as_device}
 use Rattle.re_terms.specs.Admission.{device_count}
 use Rattle.re_terms.specs.CausalWorlds.{IsCausalWorld}
 use Rattle.re_terms.specs.DeviceWorlds.{Outcome, World, entries_of, entry_of}
@@ -20,7 +20,7 @@ use Rattle.re_terms.specs.declared.command.Command.TheVariants as command
 use Rattle.re_terms.specs.declared.program.Program.{Program}
 use Rattle.re_world.proofs.Held.{restores}
 use Rattle.re_world.proofs.Stepped.{apart}
-use Rattle.re_world.specs.Images.{OpensAfter, OpensToLine, Restores}
+use Rattle.re_world.specs.Images.{MayHold, OpensAfter, OpensToLine, Restores}
 use Rattle.re_world.specs.Standing.{IsWorldOf, RestsAs}
 use Rattle.re_world.specs.State.{WorldState}
 use Rattle.re_world.specs.Stepping.{RestoresWithin}
@@ -60,6 +60,10 @@ module _ (w : World) (n : ℕ) (causal : IsCausalWorld n w) where
 
 -- ---- files that rest
 
+-- where some entries are in doubt there are entries in doubt
+pub some_in_doubt : (xs : List PlainEntry) (e : PlainEntry) (l : List PlainEntry) → xs ≡ e ∷ l → xs ≢ []
+some_in_doubt xs e l is none = let both = sym is ∙ none in absurd (cc)
+
 -- what a stop leaves of files that rest opens to the line, whatever is under way
 pub rests_line : (p : Program) (w : World) (under_way : Option Done) (d : ℕ) (now : Past) (first second : List ℕ) → RestsAs p w d now → IsCrashImageOf now 0 first → IsCrashImageOf now 1 second → OpensToLine p w under_way d first second
 rests_line p w under_way d now first second rests a b = by_opened (rests.images first second a b)
@@ -67,13 +71,13 @@ rests_line p w under_way d now first second rests a b = by_opened (rests.images 
     more : List PlainEntry
     more = further p w under_way d
 
-    by_doubt : (l : List PlainEntry) → OpensAfter p w d first second (w.settled d ++ l) → OpensAfter p w d first second (w.settled d) ⊎ OpensAfter p w d first second (w.settled d ++ first_filled l (w.unsettled d ++ entry_under_way p w under_way d))
-    by_doubt [] opens = inl (subst (OpensAfter p w d first second) (append-nil (w.settled d)) opens)
-    by_doubt (e ∷ l) opens = inr opens
+    by_doubt : (l : List PlainEntry) → w.in_doubt d ≡ l → OpensAfter p w d first second (w.settled d ++ l) → OpensAfter p w d first second (w.settled d) ⊎ (MayHold p w under_way d × OpensAfter p w d first second (w.settled d ++ first_filled l (w.unsettled d ++ entry_under_way p w under_way d)))
+    by_doubt [] is opens = inl (subst (OpensAfter p w d first second) (append-nil (w.settled d)) opens)
+    by_doubt (e ∷ l) is opens = inr (inl (some_in_doubt (w.in_doubt d) e l is), opens)
 
     by_opened : OpensAfter p w d first second (w.settled d) ⊎ OpensAfter p w d first second (w.settled d ++ w.in_doubt d) → OpensToLine p w under_way d first second
     by_opened (inl settled) = inl settled
-    by_opened (inr held) = by_doubt (w.in_doubt d) held
+    by_opened (inr held) = by_doubt (w.in_doubt d) refl held
 
 -- ---- all files
 

@@ -1,6 +1,6 @@
 -- Why a command is refused, by what is in memory.
 -- Read against: on `device a; counter c;` after crash a the command turn a add c 1 is refused with 26, and restart a isn't refused; where turn a add c 1 failed at its third call turn a add c 1, get a c and send a are refused with 34 at 3, and crash a isn't. A delivery of packet 0 before any send is refused with 28, whether a is down or up. Want of memory, 36, may come in the place of each of these.
-use Rattle.std.specs.Prelude.{◌<◌, ℕ, Bool, true, false, length, nat_le, Option, None, Some, option_and_then}
+use Rattle.std.specs.Prelude.{◌<◌, Bool, true, false, length, nat_le, Option, None, option_and_then}
 use Rattle.std.specs.Option.{option_map_or, option_or}
 use Rattle.re_device.specs.Causes.{IsCausedBy, entry_refusal, stop_refusal, unsettled_refusal}
 use Rattle.re_device.specs.Device.{DeviceState}
@@ -61,6 +61,6 @@ abbrev pub Merges : WorldState → Command → RState → Type 0
 Merges v (command.Deliver k d) state = k < length v.packets → IsPacketState v k state
 Merges v c state = Unit {0}
 
--- a command is refused for what is in memory exactly where that refuses it, unless memory runs out
+-- a command is refused for what is in memory exactly where that refuses it, unless memory runs out; where it delivers no packet that is there any state serves
 abbrev pub HasCause : WorldState → Command → PlainAnswer → Type 0
-HasCause v c a = (state : RState) → Merges v c state → IsCausedBy (refusal_in v state c) a
+HasCause v c a = (state : RState) × Merges v c state × IsCausedBy (refusal_in v state c) a

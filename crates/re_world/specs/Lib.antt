@@ -7,3 +7,4 @@ pub mod Standing
 pub mod Starting
 pub mod State
 pub mod Stepping
+pub mod Taking

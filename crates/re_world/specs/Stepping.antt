@@ -25,6 +25,7 @@ use Rattle.re_world.specs.FileSteps.{HasFileSteps, is_disk_refusal}
 use Rattle.re_world.specs.Images.{Restores}
 use Rattle.re_world.specs.Standing.{IsWorldOf}
 use Rattle.re_world.specs.State.{WorldState, device_in}
+use Rattle.re_world.specs.Taking.{Takes}
 
 -- ---- what the outside shows
 
@@ -45,7 +46,7 @@ pub record ReadsAs (p : Program) (c : Command) (stored : stores.Stored) (before 
   pub command_is : c ≡ command.Restart device
   pub store : HasStore p device (content_in before device 0) (content_in before device 1) stored
 
--- A device has stopped at this call, and this tells whether the gate of the record in hand reads as open.
+-- a device has stopped at this call, and this tells whether the gate of the record in hand reads as open
 pub record StopsAs (old new : WorldState) (d at : ℕ) (gate_open : Bool) (before now : Seen) : Type 0 where
   pub device : DeviceState
   pub place : device_in old d ≡ Some device
@@ -54,12 +55,12 @@ pub record StopsAs (old new : WorldState) (d at : ℕ) (gate_open : Bool) (befor
   pub stopped : device_after.journal.stopped ≡ Some at
   pub reads : gate_open ≡ record_reads_open device (past_in d before) (past_in d now)
 
--- A command failed at this call. Of a restart that fails no device is in memory, and both numbers are free.
+-- a command failed at this call; of a restart that fails no device is in memory, and the call's number and the gate are free
 abbrev pub Fails : WorldState → WorldState → Command → ℕ → Bool → Seen → Seen → Type 0
 Fails old new (command.Restart d) at gate_open before now = Unit {0}
 Fails old new c at gate_open before now = (d : ℕ) × (device_of c ≡ Some d) × StopsAs old new d at gate_open before now
 
--- A command fared so, as the outside shows it: a file call failed exactly where the count of the command's device has risen, and a restart that is refused for its store found files that read so.
+-- a command fared so, as the outside shows it: a file call failed exactly where the count of the command's device has risen, and a restart that is refused for its store found files that read so
 abbrev pub Shows : WorldState → WorldState → Command → Outcome → Seen → Seen → Type 0
 Shows old new c Fine before now = NoneRose before now
 Shows old new c Memory before now = NoneRose before now
@@ -108,12 +109,21 @@ pub record Keeps (old new : WorldState) (c : Command) (a : PlainAnswer) : Type 0
   pub stops : is_disk_refusal a ≡ true → (d : ℕ) → device_of c ≡ Some d → IsLeftStopped (device_in old d) (device_in new d)
   pub packets : is_disk_refusal a ≡ true → new.packets ≡ old.packets
 
+-- the answer says that a store is bad, or another program's
+abbrev pub IsStoreRefusal : PlainAnswer → Type 0
+IsStoreRefusal (Refused code) = code ≡ 39
+IsStoreRefusal (BadFile file at) = Unit {0}
+IsStoreRefusal a = ⊥
+
 -- all that a command does, over an outside that tells what is seen of it or doesn't
 pub record DoesCommand (tells : Bool) (old new : WorldState) (c : Command) (a : Answer) (before now : Seen) : Type 0 where
   pub keeps : Keeps old new c (plain_answer a)
   pub caused : HasCause old c (plain_answer a)
   pub ascends : AscendsWhereSet a
   pub counts : CountsBy c (plain_answer a) before now
+  pub takes : Takes old new c (plain_answer a)
+  -- a restart alone is refused for its store
+  pub stores : IsStoreRefusal (plain_answer a) → (d : ℕ) × (c ≡ command.Restart d)
   pub left : tells ≡ true → now.left ≡ before.left
   pub files : tells ≡ true → HasFileSteps old new c (plain_answer a) before now
   pub stepped : tells ≡ true → HasStepped old new c (plain_answer a) before now

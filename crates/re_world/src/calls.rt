@@ -1,8 +1,8 @@
 //! The calls of a device that commit, over its files outside.
-ghost use Rattle.std.specs.Prelude.{◌≡◌, ◌++◌, ◌∷◌, [], true, ℕ};
+ghost use Rattle.std.specs.Prelude.{◌≡◌, ◌+◌, ◌++◌, ◌∷◌, [], true, ℕ, IfOk, OnOk};
 ghost use Rattle.re_device.specs.Causes.{IsCausedBy, entry_refusal, stop_refusal};
 ghost use Rattle.re_device.specs.Committing.{HasDiskCause};
-ghost use Rattle.re_device.specs.Device.{current, logged, with_entry};
+ghost use Rattle.re_device.specs.Device.{all_settled, current, logged, with_entry};
 ghost use Rattle.re_device.specs.Stepping.{IsPacketOf, entered_as, settled_as};
 ghost use Rattle.re_outside.specs.Outside.{Seen};
 ghost use Rattle.re_outside.specs.Port.{disk_faults, other_faults, past_in};
@@ -28,6 +28,8 @@ pub(crate) fn take_turn<O: Outside, L: Ledger>(
     requires turn { IsAdmitted device.old.memory.program turn.turn }
     ensures commits { O.tells ≡ true → Commits (λ p w. Unit {0}) (device.old.memory.unsettled ++ logged device.old.memory (Entry.Turn turn.turn) ∷ []) (current (with_entry device.old.memory (logged device.old.memory (Entry.Turn turn.turn)))) (command.Turn device.old.memory.device turn) entered_as device.old device.new (past_in number (O.seen out.old)) (past_in number (O.seen out.new)) result }
     ensures leaves { Leaves device.old device.new result }
+    ensures memory { OnOk result (device.new.memory ≡ all_settled (with_entry device.old.memory (logged device.old.memory (Entry.Turn turn.turn)))) }
+    ensures number { IfOk result (λ done. done.number ≡ (current device.old.memory).number + 1) }
     ensures caused { IsCausedBy (entry_refusal device.old (Entry.Turn turn.turn)) (entered_as result) }
     ensures cause { HasDiskCause (disk_faults number (O.seen out.old)) (disk_faults number (O.seen out.new)) result }
     ensures others { other_faults number (O.seen out.new) ≡ other_faults number (O.seen out.old) }
@@ -48,6 +50,8 @@ pub(crate) fn take_merge<O: Outside, L: Ledger>(
     requires state { FitsShape (shape_of device.old.memory.program) state }
     ensures commits { (k : ℕ) → O.tells ≡ true → Commits (IsPacketOf device.old k state) (device.old.memory.unsettled ++ logged device.old.memory (Entry.Merge state) ∷ []) (current (with_entry device.old.memory (logged device.old.memory (Entry.Merge state)))) (command.Deliver k device.old.memory.device) entered_as device.old device.new (past_in number (O.seen out.old)) (past_in number (O.seen out.new)) result }
     ensures leaves { Leaves device.old device.new result }
+    ensures memory { OnOk result (device.new.memory ≡ all_settled (with_entry device.old.memory (logged device.old.memory (Entry.Merge state)))) }
+    ensures number { IfOk result (λ done. done.number ≡ (current device.old.memory).number + 1) }
     ensures caused { IsCausedBy (entry_refusal device.old (Entry.Merge state)) (entered_as result) }
     ensures cause { HasDiskCause (disk_faults number (O.seen out.old)) (disk_faults number (O.seen out.new)) result }
     ensures others { other_faults number (O.seen out.new) ≡ other_faults number (O.seen out.old) }
@@ -65,6 +69,8 @@ pub(crate) fn settle_entries<O: Outside>(
 ) -> Result<u64, DeviceFault>
     ensures commits { O.tells ≡ true → Commits (λ p w. Unit {0}) device.old.memory.unsettled (current device.old.memory) (command.Settle device.old.memory.device) settled_as device.old device.new (past_in number (O.seen out.old)) (past_in number (O.seen out.new)) result }
     ensures leaves { Leaves device.old device.new result }
+    ensures memory { OnOk result (device.new.memory ≡ all_settled device.old.memory) }
+    ensures number { IfOk result (λ number. number ≡ (current device.old.memory).number) }
     ensures caused { IsCausedBy (stop_refusal device.old) (settled_as result) }
     ensures cause { HasDiskCause (disk_faults number (O.seen out.old)) (disk_faults number (O.seen out.new)) result }
     ensures others { other_faults number (O.seen out.new) ≡ other_faults number (O.seen out.old) }

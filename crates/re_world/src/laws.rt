@@ -14,7 +14,7 @@ ghost use Rattle.re_world.specs.Images.{OpensToLine, Restores};
 ghost use Rattle.re_world.specs.Standing.{IsWorldOf};
 ghost use Rattle.re_world.specs.State.{WorldState};
 
-/// Where each device's two files open to its settled entries, or to these and all further ones that they may hold, they are
+/// Where each device's two files open to its settled entries, or, where they may hold further ones, to these and all of them, they are
 /// together what a stop may leave of the world: one update log stands behind the files of all devices, of which the world's is a
 /// front, whichever device's files hold further entries and whichever don't.
 pub fn joint_law()

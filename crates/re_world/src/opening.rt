@@ -156,6 +156,7 @@ pub fn open_all<O: Outside>(
     // The calls on the devices' files, in order, up to the first that failed.
     ensures steps { O.tells ≡ true → HasAllOpeningSteps p.now (past_in 0 (O.seen out.old)) (past_in 0 (O.seen out.new)) result }
     ensures first { (d : ℕ) (fault : TheFault) → O.tells ≡ true → result ≡ Err (d, fault) → OpenBefore p.now d (O.seen out.old) }
+    ensures number { (d : ℕ) (fault : TheFault) → result ≡ Err (d, fault) → d < device_count p.now.decls.items }
     ensures left { O.tells ≡ true → (O.seen out.new).left ≡ (O.seen out.old).left }
 {
     let mut devices = Seq::new(alloc);

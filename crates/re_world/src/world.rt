@@ -26,7 +26,8 @@ ghost use Rattle.re_world.specs.Opening.{HasAllOpeningSteps, IsOpened, OpenBefor
 ghost use Rattle.re_world.specs.Standing.{IsWorldOf};
 ghost use Rattle.re_world.specs.Starting.{StartsAt};
 ghost use Rattle.re_world.specs.State.{device_in};
-ghost use Rattle.re_world.specs.Stepping.{CountsBy, DoesCommand, HasStepped, IsRestartAnswer, Keeps};
+ghost use Rattle.re_world.specs.Stepping.{CountsBy, DoesCommand, HasStepped, IsRestartAnswer, IsStoreRefusal, Keeps};
+ghost use Rattle.re_world.specs.Taking.{Takes};
 
 use crate::opening::open_all;
 use re_compact::OpenFault;
@@ -81,6 +82,8 @@ impl World {
         ensures world { (base : ℕ → PlainState) (base_number : ℕ → ℕ) (log : List Update) → O.tells ≡ true → StartsAt p base base_number log (past_in 0 (O.seen out.old)) → IfOk result (λ v. IsWorldOf p (start_world p base base_number log) v (O.seen out.new)) }
         ensures restores { (base : ℕ → PlainState) (base_number : ℕ → ℕ) (log : List Update) → O.tells ≡ true → StartsAt p base base_number log (past_in 0 (O.seen out.old)) → Throughout (past_in 0 (O.seen out.old)) (past_in 0 (O.seen out.new)) (λ now. (files : ℕ → ℕ → List ℕ) → IsJointImage now files → Restores p (start_world p base base_number log) None files) }
 
+        // The number of a refusal is that of a device of the program.
+        ensures number { (d : ℕ) (fault : TheFault) → result ≡ Err (d, fault) → d < device_count p.decls.items }
         // A store is refused for what the files of the device hold, as they read at the call.
         ensures bad { (d file at : ℕ) → O.tells ≡ true → result ≡ Err (d, BadStore file at) → HasStore p d (content_in (O.seen out.old) d 0) (content_in (O.seen out.old) d 1) (stores.Bad file at) }
         ensures other { (d : ℕ) → O.tells ≡ true → result ≡ Err (d, OtherProgram) → HasStore p d (content_in (O.seen out.old) d 0) (content_in (O.seen out.old) d 1) stores.OtherProgram }
@@ -127,6 +130,8 @@ impl World {
 
         // What stays: the program, all other devices, and after a refusal all, but for the device that stops where a file call failed.
         ensures keeps { Keeps self.old self.new c (plain_answer result) }
+        // What the command leaves in memory of its own device, by its answer.
+        ensures takes { Takes self.old self.new c (plain_answer result) }
         // A command is refused for what is in memory exactly where that refuses it, unless memory runs out.
         ensures caused { HasCause self.old c (plain_answer result) }
         // The code 33 comes exactly where the count of the device's disk rose, and no other count changes.
@@ -134,6 +139,8 @@ impl World {
         // The calls on the device's files, in order, up to the first that failed, and how many the device has counted.
         ensures files { O.tells ≡ true → HasFileSteps self.old self.new c (plain_answer result) (O.seen out.old) (O.seen out.new) }
 
+        // A restart alone is refused for its store, whatever the outside tells.
+        ensures stores { IsStoreRefusal (plain_answer result) → (d : ℕ) × (c ≡ command.Restart d) }
         // What the device's files are to the program, as they read at the call, decides the answer to a restart of a device that is down,
         // unless the disk fails or memory runs out; what a restart is refused with for its store is what they are.
         ensures decided { (d : ℕ) (stored : Stored) → O.tells ≡ true → c ≡ command.Restart d → device_in self.old d ≡ None → HasStore self.old.program d (content_in (O.seen out.old) d 0) (content_in (O.seen out.old) d 1) stored → IsRestartAnswer self.old.program d stored (plain_answer result) }

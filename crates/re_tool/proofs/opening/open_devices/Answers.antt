@@ -16,6 +16,7 @@ pub returns-clause-opened : goal.returns-clause-opened
 returns-clause-opened g c =
     let e = c.new.ensures in
     opened_by c.args.p _ _ g.O.Outside.tells c.new.result (record {
+      is_program = c.requires.program;
       always = g.met.O.Outside.tells_always c.args.out.now;
       told = g.met.O.Outside.tells_always c.new.new.out ∙ sym (g.met.O.Outside.tells_always c.args.out.now);
       program = e.program;
@@ -38,6 +39,7 @@ pub returns-clause-refused : goal.returns-clause-refused
 returns-clause-refused g c = λ d fault is.
     let e = c.new.ensures in
     is_opening c.args.p _ _ g.O.Outside.tells d fault (subst (λ r. Given c.args.p (g.O.Outside.seen c.args.out.now) (g.O.Outside.seen c.new.new.out) r g.O.Outside.tells) is (record {
+      is_program = c.requires.program;
       always = g.met.O.Outside.tells_always c.args.out.now;
       told = g.met.O.Outside.tells_always c.new.new.out ∙ sym (g.met.O.Outside.tells_always c.args.out.now);
       program = e.program;

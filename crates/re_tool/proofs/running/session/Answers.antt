@@ -1,5 +1,6 @@
 use Rattle.re_tool.proofs.Caused.{completes, end_cause, input_cause, opening_cause, output_cause, program_cause, too_long_cause}
 use Rattle.re_tool.proofs.Failing.{run_stops}
+use Rattle.re_tool.proofs.Stopping.{survives}
 use Rattle.re_tool.proofs.running.session.Goals as goal
 
 pub returns-in-Run-clause-program : goal.returns-in-Run-clause-program
@@ -46,3 +47,9 @@ returns-in-Run-clause-output g c = output_cause _ _ _ _ c.run.ensures
 
 pub returns-in-Check-clause-output : goal.returns-in-Check-clause-output
 returns-in-Check-clause-output g c = output_cause _ _ _ _ c.check.ensures
+
+pub returns-in-Run-clause-survives : goal.returns-in-Run-clause-survives
+returns-in-Run-clause-survives g c = rw c.in-Run.is (survives _ _ _ _ c.run.ensures)
+
+pub returns-in-Check-clause-survives : goal.returns-in-Check-clause-survives
+returns-in-Check-clause-survives g c = rw c.in-Check.is (survives _ _ _ _ c.check.ensures)

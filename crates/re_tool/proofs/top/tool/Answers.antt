@@ -10,6 +10,7 @@ use Rattle.std.proofs.Common.{inl, inr}
 use Rattle.re_tool.proofs.Endings.{near_finish}
 use Rattle.re_tool.proofs.Failing.{refused_stops}
 use Rattle.re_tool.proofs.Starting.{near_stops}
+use Rattle.re_tool.proofs.Stopping.{survives}
 use Rattle.re_tool.proofs.top.tool.Goals as goal
 
 pub returns-in-Ok-Job-clause-words : goal.returns-in-Ok-Job-clause-words
@@ -50,3 +51,11 @@ returns-in-Err-Memory-clause-failures g c = refused_stops _ _ _ (inr c.finish-in
 
 pub returns-in-Err-Memory-clause-opening : goal.returns-in-Err-Memory-clause-opening
 returns-in-Err-Memory-clause-opening g c = λ j h. opening_cause j _ _ _ (near_finish j _ _ _ _ (near_stops j _ _ _ (omega arith) (does-nil _)) _ (λ q. absurd (cc)) c.finish-in-Err-Memory.ensures)
+
+pub returns-in-Ok-Job-clause-survives : goal.returns-in-Ok-Job-clause-survives
+returns-in-Ok-Job-clause-survives g c = λ j h.
+    let q = wished c.in-Ok-Job.field-0 in
+    survives j _ _ _ (subst (λ x. Runs x (g.O.Outside.seen c.args.out.now) (g.O.Outside.seen c.session.new.out) c.session.result) (one_job _ c.in-Ok-Job.field-0 q.0 j c.in-Ok-Job.ensures.accepted q.1 h) (rw q.1 at c.session.ensures.runs))
+
+pub returns-in-Err-Memory-clause-survives : goal.returns-in-Err-Memory-clause-survives
+returns-in-Err-Memory-clause-survives g c = λ j h. survives j _ _ _ (near_finish j _ _ _ _ (near_stops j _ _ _ (omega arith) (does-nil _)) _ (λ q. absurd (cc)) c.finish-in-Err-Memory.ensures)

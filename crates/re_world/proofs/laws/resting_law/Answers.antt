@@ -1,9 +1,9 @@
 -- Between two commands a world stays what it is, and its files restore to it.
-use Rattle.std.proofs.Common.{◌≡◌, ◌++◌, ℕ, List, None, sym, subst}
+use Rattle.std.proofs.Common.{◌≡◌, ℕ, List, None, sym, subst}
 use Rattle.std.specs.Prelude.{true}
 use Rattle.re_outside.proofs.Elsewhere.{kept_by_outputs}
 use Rattle.re_outside.specs.Moment.{IsKept}
-use Rattle.re_outside.specs.Outside.{AreOutputs, Faults, Moves, Seen}
+use Rattle.re_outside.specs.Outside.{Faults, Moves, Seen}
 use Rattle.re_outside.specs.Port.{past_in}
 use Rattle.re_outside.specs.Trace.{with_steps}
 use Rattle.re_outside.specs.declared.step.Step.{Step}

@@ -7,7 +7,9 @@ use Rattle.re_outside.specs.Port.{disk_faults, other_faults, past_in}
 use Rattle.re_outside.specs.Trace.{as_device, with_steps}
 use Rattle.re_record.specs.Stores as stores
 use Rattle.re_restore.specs.Opening.{HasRestoreCause}
+use Rattle.re_terms.specs.Admission.{device_count}
 use Rattle.re_terms.specs.Listed.{Listed}
+use Rattle.re_terms.specs.declared.program.Decl.{Decl}
 use Rattle.re_world.proofs.Opened.{all_faults, caused, held_before, none_opened, open_before, same_refusal}
 use Rattle.re_world.proofs.OpeningSteps.{made, steps_more}
 use Rattle.re_world.specs.Opening.{AreOpened, EachOpened, HasNextSteps, opening_steps}
@@ -87,3 +89,9 @@ returns-in-Err-clause-steps g c = λ tells.
     let now = g.O.Outside.seen c.open_next.new.out in
     subst (λ q. HasNextSteps {T = Unit {0}} p c.loop-number.number (as_device c.loop-number.number q) (past_in c.loop-number.number now) (Err c.in-Err.fault)) (c.loop-number.invariant.moment tells)
     (subst (λ (k : ℕ). HasNextSteps {T = Unit {0}} p k (past_in k mid) (past_in k now) (Err c.in-Err.fault)) c.loop-number.invariant.count (c.in-Err.ensures.steps tells))
+
+pub returns-in-Err-clause-number : goal.returns-in-Err-clause-number
+returns-in-Err-clause-number g c d fault refused =
+    let is = (same_refusal c.loop-number.number d c.in-Err.fault fault refused).0 in
+    let listed : device_count c.as_slice.result.now ≡ device_count c.args.p.now.decls.items = ap (λ (l : List Decl). device_count l) c.as_slice.ensures in
+    omega (arith, is, listed)

@@ -3,6 +3,7 @@ use Rattle.std.proofs.Common.{◌∙◌, ℕ, Some, refl, sym, ap}
 use Rattle.std.specs.Option.{option_copied}
 use Rattle.re_terms.specs.Listed.{Listed}
 use Rattle.re_terms.specs.declared.command.Command.TheVariants as command
+use Rattle.re_world.proofs.Caused.{any_state}
 use Rattle.re_world.proofs.Inside.{memory_does}
 use Rattle.re_world.proofs.Told.{hex_does, hex_lacks, nothing_behind, packet_at}
 use Rattle.re_world.proofs.world.World.hex.Goals as goal
@@ -16,4 +17,4 @@ returns-in-Ok c =
     hex_does c.args.self.now c.args.packet c.from_vec.result (packet_at c.self.inside c.args.self.now c.args.packet _ c.self.view_is (sym c.get.ensures ∙ ap option_copied c.in-Some.is) ∙ ap Some (sym copied))
 
 pub returns-in-Err : goal.returns-in-Err
-returns-in-Err c = memory_does c.args.self.now (command.Hex c.args.packet) refl
+returns-in-Err c = memory_does c.args.self.now (command.Hex c.args.packet) refl (any_state c.args.self.now, tt)

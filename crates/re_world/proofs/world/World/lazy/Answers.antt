@@ -5,7 +5,7 @@ use Rattle.re_device.specs.Stepping.{applied_as}
 use Rattle.re_terms.specs.Admission.{IsAdmitted}
 use Rattle.re_terms.specs.declared.command.Answer.TheVariants as answer
 use Rattle.re_terms.specs.declared.command.Command.TheVariants as command
-use Rattle.re_world.proofs.Caused.{found_down}
+use Rattle.re_world.proofs.Caused.{any_state, found_down}
 use Rattle.re_world.proofs.Inside.{down_does}
 use Rattle.re_world.proofs.InsideDone.{none_out}
 use Rattle.re_world.proofs.Placed.{no_some}
@@ -20,7 +20,7 @@ returns-in_default g c =
     let n = c.args.number in
     let asked = command.Lazy n c.args.turn in
     let none = sym c.take_out.ensures.device ∙ no_some c.take_out.result c.in_default.not-Some in
-    subst (λ v. DoesInside old v asked (answer.No 26)) (sym (none_out old c.take_out.new.self n none c.take_out.ensures.rest)) (down_does old asked n c.requires.0 none refl (found_down old n none) refl (λ u. refl) (λ p u s is. refl))
+    subst (λ v. DoesInside old v asked (answer.No 26)) (sym (none_out old c.take_out.new.self n none c.take_out.ensures.rest)) (down_does old asked n c.requires.0 none refl (found_down old n none) refl (any_state old, tt) (λ u. refl) (λ p u s is. refl))
 
 pub lazy-applied-requires : goal.lazy-applied-requires
 lazy-applied-requires g c = subst (λ q. IsAdmitted q c.args.turn.turn) (sym c.in-Some.ensures.placed.program) c.requires.1
@@ -48,6 +48,8 @@ returns-in-Ok g c =
       back = c.put_in.ensures ∙ ap (λ (v : WorldState). record v { devices = slice_set v.devices n (Some x') }) c.take_out.ensures.rest;
       answer = sym (ap applied_as c.in-Ok.is);
       steps = c.lazy-applied.ensures.world;
+      memory = c.lazy-applied.ensures.memory;
+      entry_number = c.lazy-applied.ensures.number;
       journal = c.lazy-applied.ensures.store.0;
       generation = c.lazy-applied.ensures.store.1;
       own = keeps_own x x' _ r c.lazy-applied.ensures.memory c.lazy-applied.ensures.unchanged;
@@ -71,6 +73,8 @@ returns-in-Err g c =
       back = c.put_in.ensures ∙ ap (λ (v : WorldState). record v { devices = slice_set v.devices n (Some x') }) c.take_out.ensures.rest;
       answer = c.refused.ensures ∙ sym (ap applied_as c.in-Err.is);
       steps = c.lazy-applied.ensures.world;
+      memory = c.lazy-applied.ensures.memory;
+      entry_number = c.lazy-applied.ensures.number;
       journal = c.lazy-applied.ensures.store.0;
       generation = c.lazy-applied.ensures.store.1;
       own = keeps_own x x' _ r c.lazy-applied.ensures.memory c.lazy-applied.ensures.unchanged;

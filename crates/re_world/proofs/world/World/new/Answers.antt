@@ -113,3 +113,13 @@ pub returns-clause-opened : goal.returns-clause-opened
 returns-clause-opened g c = λ d below.
     let found = c.in_ok-devices.ensures.each d (subst (λ n. d < n) (sym c.in_ok-devices.ensures.count) below) in
     (found.0, ap (λ (o : Option (Option DeviceState)). option_and_then (λ (y : Option DeviceState). y) o) found.1, found.2)
+
+pub returns-in_err-devices-clause-number : goal.returns-in_err-devices-clause-number
+returns-in_err-devices-clause-number g c d fault refused =
+    c.open_all.ensures.number d fault (c.in_err-devices.was ∙ ap Err (handed_on c.from_residual.result c.in_err-devices.field-0.0 (d, fault) c.from_residual.ensures.1 refused))
+
+pub returns-in_default-clause-number : goal.returns-in_default-clause-number
+returns-in_default-clause-number g c d fault refused =
+    let none : d ≡ 0 = sym (same_refusal 0 d Memory fault refused).0 in
+    let some = c.requires.program.device in
+    omega (arith, none, some)

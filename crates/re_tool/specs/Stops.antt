@@ -1,0 +1,37 @@
+-- What a stop leaves of a run at any of its moments.
+-- Read against: on `device a; var x: int = 0;` with turn a x = 5, whatever a stop leaves of a's files while the program is read, while they are opened, or while their turn is committed, opens to no entry or, once its record may be whole, to one; behind ok 1 it opens to one.
+use Rattle.std.specs.Prelude.{◌≡◌, ◌⊎◌, ℕ, true, List, None, Option, Some}
+use Rattle.re_compact.specs.declared.fault.OpenFault.{OpenFault}
+use Rattle.re_outside.specs.Moment.{Throughout}
+use Rattle.re_outside.specs.Outside.{Seen}
+use Rattle.re_outside.specs.Port.{past_in}
+use Rattle.re_outside.specs.Trace.{IsJointImage, Past}
+use Rattle.re_session.specs.Acts.{DoneLine}
+use Rattle.re_session.specs.Begins.{Begins}
+use Rattle.re_session.specs.Stops.{StopsAfter, world_of}
+use Rattle.re_terms.specs.DeviceWorlds.{World}
+use Rattle.re_terms.specs.declared.program.Program.{Program}
+use Rattle.re_tool.specs.Answers.{Session, done}
+use Rattle.re_tool.specs.Session.{Runs}
+use Rattle.re_tool.specs.Verdict.{Accepted}
+use Rattle.re_tool.specs.declared.status.Status.{Status}
+use Rattle.re_tool.specs.declared.words.Job.{Job}
+use Rattle.re_world.specs.Images.{Restores}
+
+-- While lines are done a stop leaves the world behind the first of them that were answered, with the next one's command under way or none; behind all of them it leaves the world behind all.
+abbrev pub LeavesWorld : Program → World → List DoneLine → Past → Past → Type 0
+LeavesWorld p w lines base now = (files : ℕ → ℕ → List ℕ) → IsJointImage now files → StopsAfter p w lines base now files ⊎ Restores p (world_of p w lines) None files
+
+-- the files restore to this world, with no command under way
+abbrev pub LeavesStart : Program → World → Past → Type 0
+LeavesStart p w now = (files : ℕ → ℕ → List ℕ) → IsJointImage now files → Restores p w None files
+
+-- A job has run, and a stop at any moment of it leaves what stands for each world in which the run may begin, and what it has settled since.
+pub record Survives (j : Job) (old new : Seen) (s : Status) : Type 0 where
+  pub runs : Runs j old new s
+  -- where it has a session
+  pub session : (x : Session) (w : World) → done j runs.verdict runs.read runs.outcomes ≡ Some x → Begins x.program w old → Throughout (past_in 0 old) (past_in 0 new) (LeavesWorld x.program w runs.lines (past_in 0 old))
+  -- where a device doesn't open
+  pub unopened : (p : Program) (w : World) (u : ℕ × OpenFault) → runs.verdict ≡ Accepted p → runs.outcomes.unopened ≡ Some u → Begins p w old → Throughout (past_in 0 old) (past_in 0 new) (LeavesStart p w)
+  -- where no device is opened a stop leaves what it could have left before
+  pub still : done j runs.verdict runs.read runs.outcomes ≡ None → runs.outcomes.unopened ≡ None → old.told ≡ true → Throughout (past_in 0 old) (past_in 0 new) (λ now. (files : ℕ → ℕ → List ℕ) → IsJointImage now files → IsJointImage (past_in 0 old) files)
