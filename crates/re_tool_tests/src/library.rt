@@ -1,12 +1,13 @@
 //! Devices and sessions in the hands of other code.
-ghost use Rattle.std.specs.Prelude.{◌<◌, ◌^◌, length};
+ghost use Rattle.std.specs.Prelude.{◌<◌, ◌^◌, length, IfSome};
+ghost use Rattle.re_terms.specs.Programs.{IsProgram};
 
 use re_fakes::{Files, MemoryWorld};
 use re_outside::Step;
 use re_print::print_program;
 use re_session::do_line;
 use re_syntax::parse;
-use re_terms::Seq;
+use re_terms::{Program, Seq};
 use re_tokens::tokens;
 use re_tool::{Job, Status, session};
 use re_types::resolve;
@@ -33,18 +34,33 @@ fn said(alloc: Global, out: &MemoryWorld) -> Result<Vec<u8>, AllocError> {
     Ok(said)
 }
 
+/// The program in a text.
+fn program_of(alloc: Global, text: &[u8]) -> Option<Program>
+    requires { length text.now < 2 ^ 32 }
+    ensures { IfSome result IsProgram }
+{
+    let tokens = tokens(alloc, text).ok()?;
+    let tree = parse(alloc, &tokens).ok()?;
+    resolve(alloc, tree).ok()
+}
+
+/// The devices of a program over the files of an outside.
+fn opened(alloc: Global, program: Program, out: &mut MemoryWorld) -> Option<World>
+    requires { IsProgram program }
+{
+    if print_program(alloc, &program).ok()?.len() > 65_536 {
+        return None;
+    }
+    World::new(alloc, out, program).ok()
+}
+
 /// What the devices of the program in a text answer to these lines, over files that hold nothing.
 fn answers(alloc: Global, text: &[u8], lines: &[&[u8]]) -> Option<Vec<u8>>
     requires { length text.now < 2 ^ 32 }
 {
-    let tokens = tokens(alloc, text).ok()?;
-    let tree = parse(alloc, &tokens).ok()?;
-    let program = resolve(alloc, tree).ok()?;
-    if print_program(alloc, &program).ok()?.len() > 65_536 {
-        return None;
-    }
+    let program = program_of(alloc, text)?;
     let mut out = in_memory(alloc, &[]).ok()?;
-    let mut devices = World::new(alloc, &mut out, program).ok()?;
+    let mut devices = opened(alloc, program, &mut out)?;
     for line in lines {
         do_line(alloc, &mut devices, *line, &mut out).ok()?;
     }
