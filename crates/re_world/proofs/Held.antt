@@ -7,7 +7,7 @@ use Rattle.std.proofs.lemmas.List.{append-nil}
 use Rattle.re_terms.proofs.Logs.{IsIn-cases, IsIn-from_filter}
 use Rattle.std.proofs.Math.Seq.{take-length}
 use Rattle.re_record.specs.Represents.{DeviceRepresents, counts_of}
-use Rattle.re_terms.proofs.Growing.{all_append, entries_follow, entries_taken, joint_count, run_taken-append}
+use Rattle.re_terms.proofs.Growing.{all_append, entries_follow, entries_taken, joint_count, part_grown, run_taken-append}
 use Rattle.re_terms.proofs.Joint.{count-append, joint_causal, joint_closed, joint_covered}
 use Rattle.re_terms.proofs.Members.{state_same}
 use Rattle.re_terms.proofs.WorldEffects.{run-taken}
@@ -17,7 +17,7 @@ use Rattle.re_terms.specs.DeviceWorlds.{World, settled_taken}
 use Rattle.re_terms.specs.Entries.{PlainEntry, run_entries, run_taken}
 use Rattle.re_terms.specs.JointLogs.{Further, all_of, AllFollow, Follows, IsOneOf, NoneOf}
 use Rattle.re_terms.specs.Lines.{Done, entry_under_way, first_filled, further}
-use Rattle.re_terms.specs.Parts.{AllFit}
+use Rattle.re_terms.specs.Parts.{AllFit, AreParts}
 use Rattle.re_terms.specs.Shapes.{shape_of}
 use Rattle.re_terms.specs.TakenIn.{IsTakenIn}
 use Rattle.re_terms.specs.Updates.{Update, IsCausalLog, IsCausallyClosed, IsIn, covered, vector_of}
@@ -86,6 +86,10 @@ module _ (p : Program) (w : World) (under_way : Option Done) (causal : IsCausalW
 
     log_causal : IsCausalLog (log_held p w under_way more)
     log_causal = joint_causal w.log lists causal.causal all_follow
+
+    parts_held : (packets : List (List Update)) → AreParts w.log packets → AreParts (log_held p w under_way more) packets
+    parts_held [] are = tt
+    parts_held (us ∷ packets) are = (part_grown w.log (all_of lists) us log_causal are.0, parts_held packets are.1)
 
     log_devices : (u : Update) → IsIn u (log_held p w under_way more) → u.dot.device < device_count p.decls.items
     log_devices u is = elim (IsIn-cases u w.log (all_of lists) is) [
@@ -160,6 +164,7 @@ restores p w under_way files causal own each = record {
     of_devices = log_devices p w under_way causal own more;
     each = λ d below. device_is p w under_way causal own more d below (files d 0) (files d 1) (opens d below);
   };
+  packets = parts_held p w under_way causal own more w.packets causal.packets;
 }
   where
     held : (d : ℕ) → (d < device_count p.decls.items) ⊎ (device_count p.decls.items ≤ d) → ℕ

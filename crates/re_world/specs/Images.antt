@@ -12,6 +12,7 @@ use Rattle.re_terms.specs.DeviceWorlds.{World, device_of, reply, settled_taken}
 use Rattle.re_terms.specs.Entries.{PlainEntry, run_entries, run_updates}
 use Rattle.re_terms.specs.JointLogs.{Further, all_of}
 use Rattle.re_terms.specs.Lines.{Done, further, may_have_entered}
+use Rattle.re_terms.specs.Parts.{AreParts}
 use Rattle.re_terms.specs.Runs.{StandsForPlain}
 use Rattle.re_terms.specs.Updates.{Update}
 use Rattle.re_terms.specs.declared.command.Command.{Command}
@@ -64,10 +65,11 @@ abbrev pub log_held : Program → World → Option Done → (ℕ → ℕ) → Li
 log_held p w under_way more = w.log ++ all_of (map (updates_held p w under_way more) (range_with_len 0 (device_count p.decls.items)))
 
 -- What a stop leaves of a world in which a command may be under way: each device's files open to the state after a front of its line that has all settled entries,
--- and all further ones, where they may hold these, or none, and one update log stands behind the files, of which the world's is a front.
+-- and all further ones, where they may hold these, or none, and one update log stands behind the files, of which the world's is a front. Each packet of the world is a part of that log.
 pub record Restores (p : Program) (w : World) (under_way : Option Done) (files : ℕ → ℕ → List ℕ) : Type 0 where
   -- how many further entries the files of each device hold
   pub more : ℕ → ℕ
   pub whole : (d : ℕ) → d < device_count p.decls.items → (more d ≡ 0) ⊎ ((more d ≡ length (further p w under_way d)) × MayHold p w under_way d)
   pub opens : (d : ℕ) → d < device_count p.decls.items → OpensAfter p w d (files d 0) (files d 1) (w.settled d ++ take (more d) (further p w under_way d))
   pub represents : Represents p files (log_held p w under_way more)
+  pub packets : AreParts (log_held p w under_way more) w.packets
