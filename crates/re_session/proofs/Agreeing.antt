@@ -1,28 +1,26 @@
 -- Devices that took in the same updates show the same of replicated cells.
-use Rattle.std.proofs.Common.{◌≡◌, ◌<◌, ◌⊎◌, [], ◌∷◌, ℕ, zero, suc, Bool, false, true, List, None, Some, ap, arith, inl, inr, length, refl, subst, sym, ◌∙◌}
+use Rattle.std.proofs.Common.{◌≡◌, ◌<◌, ◌⊎◌, [], ◌∷◌, ℕ, zero, suc, Bool, true, List, None, Some, ap, arith, inl, inr, length, refl, subst, sym, ◌∙◌}
 use Rattle.std.specs.Prelude.{if◌then◌else◌, slice_get}
 use Rattle.std.specs.List.{All}
 use Rattle.std.proofs.lemmas.List.Elements.{All-head, All-tail}
 use Rattle.std.proofs.lemmas.Option.{slice_get_within}
 use Rattle.re_graph.proofs.Own.{below-own}
 use Rattle.re_session.proofs.Meanings.{AgreeOn, agree_names, meaning-agrees, signal_word-meaning}
-use Rattle.re_session.specs.Agreement.{AreReplicated, IsReplicatedName, IsSignalOf}
+use Rattle.re_session.specs.Agreement.{AreReplicated, IsSignalOf}
 use Rattle.re_terms.proofs.MemberValues.{values_same}
 use Rattle.re_terms.proofs.Members.{state_same}
 use Rattle.re_terms.proofs.Ordered.{inputs-before}
 use Rattle.re_terms.proofs.Values.{elements_are}
 use Rattle.re_terms.specs.Dependencies.{below, expr_names, inputs}
-use Rattle.re_terms.specs.Meaning.{meaning}
 use Rattle.re_terms.specs.Programs.{IsProgram, is_replicated_body}
 use Rattle.re_terms.specs.Runs.{PlainState, plain_view}
 use Rattle.re_terms.specs.Shapes.{shape_of}
-use Rattle.re_terms.specs.SignalWords.{body_word, names_environment, no_word, place_word, replicated_place, signal_word}
+use Rattle.re_terms.specs.SignalWords.{body_word, no_word, place_word, replicated_place, signal_word}
 use Rattle.re_terms.specs.UpdateSets.{SameUpdates}
-use Rattle.re_terms.specs.UpdateStates.{state_of_updates}
 use Rattle.re_terms.specs.Updates.{IsCausalLog, IsIn, Update}
 use Rattle.re_terms.specs.Values.{value_at, value_elements}
 use Rattle.re_terms.specs.Views.{View, cell_elements}
-use Rattle.re_terms.specs.Worlds.{Members, PlainAnswer, Value, is_set_at, shown}
+use Rattle.re_terms.specs.Worlds.{Members, Value, is_set_at, shown}
 use Rattle.re_terms.specs.declared.program.Body.{Body}
 use Rattle.re_terms.specs.declared.program.Body.TheVariants as body
 use Rattle.re_terms.specs.declared.program.Decl.{Decl}

@@ -1,3 +1,4 @@
+pub mod Acknowledged
 pub mod Acting
 pub mod Agreeing
 pub mod Answering

@@ -1,7 +1,7 @@
 -- What a stop leaves at each moment of a session.
-use Rattle.std.proofs.Common.{◌≡◌, ◌++◌, ◌∷◌, [], ℕ, suc, List, None, Ok, Option, Some, ap, append_assoc, arith, length, refl, subst, sym, take, true, ◌∙◌}
+use Rattle.std.proofs.Common.{◌≡◌, ◌++◌, ◌∷◌, ◌<◌, ◌≤◌, [], ℕ, zero, suc, List, None, Ok, Option, Some, ap, append_assoc, arith, length, refl, subst, sym, take, true, ◌∙◌}
 use Rattle.std.specs.Prelude.{slice_get}
-use Rattle.std.proofs.lemmas.List.{append-nil, append_cancel_left}
+use Rattle.std.proofs.lemmas.List.{append-nil, append_cancel_left, length-append}
 use Rattle.re_commands.specs.Commanding.{commanded}
 use Rattle.re_outside.proofs.Does.{said-append}
 use Rattle.re_outside.proofs.Elsewhere.{kept_by_outputs}
@@ -17,7 +17,8 @@ use Rattle.re_session.proofs.Lasting.{world_on}
 use Rattle.re_session.specs.Acts.{Act, Acts, DoneLine}
 use Rattle.re_session.specs.LineAnswers.{line_after, line_text}
 use Rattle.re_session.specs.Serving.{DoesAsked, DoesLine, asks, finds_no_memory, holds_none, is_faulty, said_of}
-use Rattle.re_session.specs.Stops.{IsUnderWay, Stops, StopsAfter, texts_of, world_of}
+use Rattle.re_session.proofs.Acknowledged.{holds_acknowledged}
+use Rattle.re_session.specs.Stops.{BeginsBehind, IsUnderWay, Stops, texts_of, world_of}
 use Rattle.re_terms.specs.declared.command.Answer.{Answer}
 use Rattle.re_terms.specs.declared.command.Command.{Command}
 use Rattle.re_terms.specs.DeviceWorlds.{World}
@@ -90,53 +91,68 @@ throughout_outputs x y read text f told d = record {
 
 -- ---- what a stop leaves
 
--- before the first line is done
-pub stop_here : (p : Program) (w : World) (lines : List DoneLine) (base now : Past) (files : ℕ → ℕ → List ℕ) (under_way : Option Done) → said now.trace ≡ said base.trace → IsUnderWay p (slice_get lines 0) under_way → Restores p w under_way files → StopsAfter p w lines base now files
-stop_here p w lines base now files under_way says next restores = record {
-  answered = 0;
-  within = omega arith;
+-- what a stop leaves where all else is known holds what was acknowledged
+stops_with : (p : Program) (w : World) (lines : List DoneLine) (base now : Past) (answered : ℕ) → answered ≤ length lines → (under_way : Option Done) → IsUnderWay p (slice_get lines answered) under_way
+    → (text rest : List ℕ) → said now.trace ≡ said base.trace ++ text → texts_of p w (take answered lines) ≡ text ++ rest → ((first : ℕ) → first < answered → length (texts_of p w (take first lines)) ≤ length text) → BeginsBehind under_way rest
+    → ((files : ℕ → ℕ → List ℕ) → IsJointImage now files → Restores p (world_of p w (take answered lines)) under_way files) → Stops p w lines base now
+stops_with p w lines base now answered within under_way next text rest says front last begins restores = record {
+  answered = answered;
+  within = within;
   under_way = under_way;
   is_next = next;
+  text = text;
+  says = says;
+  rest = rest;
+  front = front;
+  all_but_last = last;
+  begins = begins;
   restores = restores;
-  text = [];
-  says = says ∙ sym (append-nil (said base.trace));
-  rest = [];
-  front = refl;
+  holds = λ files image. holds_acknowledged p w lines answered under_way text rest files (restores files image) front;
 }
+
+begins_behind : (under_way : Option Done) → BeginsBehind under_way []
+begins_behind None = tt
+begins_behind (Some c) = refl
+
+-- before the first line is done
+pub stop_here : (p : Program) (w : World) (lines : List DoneLine) (base now : Past) (under_way : Option Done) → said now.trace ≡ said base.trace → IsUnderWay p (slice_get lines 0) under_way → ((files : ℕ → ℕ → List ℕ) → IsJointImage now files → Restores p w under_way files) → Stops p w lines base now
+stop_here p w lines base now under_way says next restores = stops_with p w lines base now 0 (omega arith) under_way next [] [] (says ∙ sym (append-nil (said base.trace))) refl (λ first less. absurd (omega (arith, less))) (begins_behind under_way) restores
+
+only_first : (p : Program) (w : World) (l : DoneLine) (lines : List DoneLine) (text : List ℕ) (first : ℕ) → first < 1 → length (texts_of p w (take first (l ∷ lines))) ≤ length text
+only_first p w l lines text zero less = omega arith
+only_first p w l lines text (suc n) less = absurd (omega (arith, less))
 
 -- behind the first line, within the saying of its answer
-stop_behind : (p : Program) (w : World) (l : DoneLine) (lines : List DoneLine) (base now : Past) (files : ℕ → ℕ → List ℕ) (front tail : List ℕ) → said now.trace ≡ said base.trace ++ front → line_text p w (commanded p l.line) l.outcome ≡ front ++ tail → Restores p (line_after p w (commanded p l.line) l.outcome) None files → StopsAfter p w (l ∷ lines) base now files
-stop_behind p w l lines base now files front tail says whole restores = record {
-  answered = 1;
-  within = omega arith;
-  under_way = None;
-  is_next = tt;
-  restores = restores;
-  text = front;
-  says = says;
-  rest = tail;
-  front = append-nil _ ∙ whole;
-}
+stop_behind : (p : Program) (w : World) (l : DoneLine) (lines : List DoneLine) (base now : Past) (front tail : List ℕ) → said now.trace ≡ said base.trace ++ front → line_text p w (commanded p l.line) l.outcome ≡ front ++ tail → ((files : ℕ → ℕ → List ℕ) → IsJointImage now files → Restores p (line_after p w (commanded p l.line) l.outcome) None files) → Stops p w (l ∷ lines) base now
+stop_behind p w l lines base now front tail says whole restores = stops_with p w (l ∷ lines) base now 1 (omega arith) None tt front tail says (append-nil _ ∙ whole) (only_first p w l lines front) tt restores
+
+-- all but the last answer, behind one more
+one_more : (p : Program) (w : World) (l : DoneLine) (lines : List DoneLine) (answered : ℕ) (answer text : List ℕ) → line_text p w (commanded p l.line) l.outcome ≡ answer
+    → ((first : ℕ) → first < answered → length (texts_of p (line_after p w (commanded p l.line) l.outcome) (take first lines)) ≤ length text)
+    → (first : ℕ) → first < suc answered → length (texts_of p w (take first (l ∷ lines))) ≤ length (answer ++ text)
+one_more p w l lines answered answer text is last zero less = omega arith
+one_more p w l lines answered answer text is last (suc n) less =
+    let w' = line_after p w (commanded p l.line) l.outcome in
+    let a = length-append (line_text p w (commanded p l.line) l.outcome) (texts_of p w' (take n lines)) in
+    let b = length-append answer text in
+    let c = ap length is in
+    let k = last n (omega (arith, less)) in
+    omega (arith, a, b, c, k)
 
 -- further on, behind the first line
-stop_further : (p : Program) (w : World) (l : DoneLine) (lines : List DoneLine) (base mid now : Past) (files : ℕ → ℕ → List ℕ) (answer : List ℕ) → said mid.trace ≡ said base.trace ++ answer → line_text p w (commanded p l.line) l.outcome ≡ answer → StopsAfter p (line_after p w (commanded p l.line) l.outcome) lines mid now files → StopsAfter p w (l ∷ lines) base now files
-stop_further p w l lines base mid now files answer says is s = record {
-  answered = suc s.answered;
-  within = let k = s.within in omega (arith, k);
-  under_way = s.under_way;
-  is_next = s.is_next;
-  restores = s.restores;
-  text = answer ++ s.text;
-  says = s.says ∙ ap (λ x. x ++ s.text) says ∙ append_assoc (said base.trace) answer s.text;
-  rest = s.rest;
-  front = ap (λ x. x ++ texts_of p (line_after p w (commanded p l.line) l.outcome) (take s.answered lines)) is ∙ ap (λ x. answer ++ x) s.front ∙ sym (append_assoc answer s.text s.rest);
-}
+stop_further : (p : Program) (w : World) (l : DoneLine) (lines : List DoneLine) (base mid now : Past) (answer : List ℕ) → said mid.trace ≡ said base.trace ++ answer → line_text p w (commanded p l.line) l.outcome ≡ answer → Stops p (line_after p w (commanded p l.line) l.outcome) lines mid now → Stops p w (l ∷ lines) base now
+stop_further p w l lines base mid now answer says is s =
+    stops_with p w (l ∷ lines) base now (suc s.answered) (let k = s.within in omega (arith, k)) s.under_way s.is_next (answer ++ s.text) s.rest
+    (s.says ∙ ap (λ x. x ++ s.text) says ∙ append_assoc (said base.trace) answer s.text)
+    (ap (λ x. x ++ texts_of p (line_after p w (commanded p l.line) l.outcome) (take s.answered lines)) is ∙ ap (λ x. answer ++ x) s.front ∙ sym (append_assoc answer s.text s.rest))
+    (one_more p w l lines s.answered answer s.text is s.all_but_last)
+    s.begins s.restores
 
 -- ---- one line
 
 module _ (p : Program) (w : World) (l : DoneLine) (lines : List DoneLine) (v v' : WorldState) (a b : Seen) (base : Past) (told : a.told ≡ true) (before : said a.trace ≡ said base.trace) (is : IsWorldOf p w v a) (d : DoesLine p l.line v v' l.answer l.outcome a b) where
   stops_still : b ≡ a → Throughout (past_in 0 a) (past_in 0 b) (Stops p w (l ∷ lines) base)
-  stops_still same = no_step (past_in 0 a) (past_in 0 b) (Stops p w (l ∷ lines) base) (ap (past_in 0) same) (λ files images. stop_here p w (l ∷ lines) base (past_in 0 a) files None before tt (rest_restores p w v a files is images))
+  stops_still same = no_step (past_in 0 a) (past_in 0 b) (Stops p w (l ∷ lines) base) (ap (past_in 0) same) (stop_here p w (l ∷ lines) base (past_in 0 a) None before tt (λ files images. rest_restores p w v a files is images))
 
   stops_asked : (c : Command) (x : Answer) → commanded p l.line ≡ Ok (Some c) → DoesAsked p c v v' x l.outcome a b → Throughout (past_in 0 a) (past_in 0 b) (Stops p w (l ∷ lines) base)
   stops_asked c x meant asked =
@@ -145,11 +161,11 @@ module _ (p : Program) (w : World) (l : DoneLine) (lines : List DoneLine) (v v' 
       let does = asked.goes.does in
       record {
         goes_on = within.goes_on;
-        each = λ now on nn files images.
+        each = λ now on nn.
             let e = parts (past_in 0 a) now (past_in 0 b) does.steps (moved a b [] [] asked.goes.faults told does) on nn in
             let quiet : said on.0 ≡ [] = none_front (said on.0) (said nn.0) (sym does.says ∙ said_parts on.0 nn.0 does.steps e) in
             let says : said now.trace ≡ said base.trace = said_on (past_in 0 a) now on ∙ ap (λ t. said a.trace ++ t) quiet ∙ append-nil (said a.trace) ∙ before in
-            stop_here p w (l ∷ lines) base now files (Some (record { asked = c; outcome = stepped.outcome })) says (meant, asked.fared told) (within.each now on nn files images);
+            stop_here p w (l ∷ lines) base now (Some (record { asked = c; outcome = stepped.outcome })) says (meant, asked.fared told) (within.each now on nn);
       }
 
   -- a stop within a line leaves the world before it, with its command under way or none
@@ -166,9 +182,9 @@ module _ (p : Program) (w : World) (l : DoneLine) (lines : List DoneLine) (v v' 
 pub stops_reading : (p : Program) (w : World) (lines : List DoneLine) (v : WorldState) (a b : Seen) (base : Past) (read : List ℕ) (f : Faults) → a.told ≡ true → said a.trace ≡ said base.trace → IsWorldOf p w v a → Does a b read [] f → Throughout (past_in 0 a) (past_in 0 b) (Stops p w lines base)
 stops_reading p w lines v a b base read f told before is d =
     weaken (past_in 0 a) (past_in 0 b) (While a []) (Stops p w lines base)
-    (λ now here files images.
+    (λ now here.
     let quiet : here.front ≡ [] = none_front here.front here.tail here.whole in
-    stop_here p w lines base now files None (here.says ∙ ap (λ t. said a.trace ++ t) quiet ∙ append-nil (said a.trace) ∙ before) tt (rest_restores p w v a files is (images_were a [] now here files images)))
+    stop_here p w lines base now None (here.says ∙ ap (λ t. said a.trace ++ t) quiet ∙ append-nil (said a.trace) ∙ before) tt (λ files images. rest_restores p w v a files is (images_were a [] now here files images)))
     (throughout_outputs a b read [] f told d)
 
 -- ---- many lines
@@ -214,7 +230,7 @@ module _ (p : Program) (w : World) (l : DoneLine) (lines : List DoneLine) (v v' 
   saying : Throughout (past_in 0 act.done) (past_in 0 b) (Stops p w (l ∷ lines) (past_in 0 a))
   saying =
       weaken (past_in 0 act.done) (past_in 0 b) (While act.done (said_of p l.answer)) (Stops p w (l ∷ lines) (past_in 0 a))
-      (λ now here files images. stop_behind p w l lines (past_in 0 a) now files here.front here.tail (here.says ∙ ap (λ t. t ++ here.front) said_done) (act_text ∙ here.whole) (rest_restores p after v' act.done files led.1 (images_were act.done (said_of p l.answer) now here files images)))
+      (λ now here. stop_behind p w l lines (past_in 0 a) now here.front here.tail (here.says ∙ ap (λ t. t ++ here.front) said_done) (act_text ∙ here.whole) (λ files images. rest_restores p after v' act.done files led.1 (images_were act.done (said_of p l.answer) now here files images)))
       (throughout_outputs act.done b [] (said_of p l.answer) none act_done_told act.says)
 
   pub stops_act : Throughout (past_in 0 a) (past_in 0 b) (Stops p w (l ∷ lines) (past_in 0 a))
@@ -236,5 +252,5 @@ stops_acts p w (l ∷ lines) more v v' a b c told is acts behind =
     join (past_in 0 a) (past_in 0 mid) (past_in 0 c) (Stops p w (l ∷ (lines ++ more)) (past_in 0 a))
     (stops_act p w l (lines ++ more) v acts.devices a mid told is acts.here)
     (weaken (past_in 0 mid) (past_in 0 c) (Stops p w' (lines ++ more) (past_in 0 mid)) (Stops p w (l ∷ (lines ++ more)) (past_in 0 a))
-    (λ now here files images. stop_further p w l (lines ++ more) (past_in 0 a) (past_in 0 mid) now files (said_of p l.answer) (act_said p w l (lines ++ more) v acts.devices a mid told is acts.here) (act_text p w l (lines ++ more) v acts.devices a mid told is acts.here) (here files images))
+    (λ now here. stop_further p w l (lines ++ more) (past_in 0 a) (past_in 0 mid) now (said_of p l.answer) (act_said p w l (lines ++ more) v acts.devices a mid told is acts.here) (act_text p w l (lines ++ more) v acts.devices a mid told is acts.here) here)
     next)

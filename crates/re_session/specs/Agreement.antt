@@ -1,6 +1,6 @@
 -- Names that show replicated cells alone.
 -- Read against: on `counter c; set s: int; var x: int = 1; signal a = c + size(s); signal b = a + x;` these are c, s and a; b isn't one, since it names x's word through x.
-use Rattle.std.specs.Prelude.{◌≡◌, ◌⊎◌, ℕ, Bool, true, List, Some, slice_get}
+use Rattle.std.specs.Prelude.{◌≡◌, ◌⊎◌, ℕ, Bool, true, Some, slice_get}
 use Rattle.std.specs.List.{All}
 use Rattle.re_terms.specs.Dependencies.{expr_names}
 use Rattle.re_terms.specs.Programs.{is_replicated_body}

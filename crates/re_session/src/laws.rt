@@ -44,18 +44,19 @@ pub fn session_law()
         IsWorldOf p (lines_after p w (map (λ (l : DoneLine). l.line) lines) (map (λ (l : DoneLine). l.outcome) lines)) after new }
 {}
 
-/// At each moment of lines that are done one behind the other, a stop leaves files of all devices that restore to the world behind the
-/// first of these lines, with the next one's command under way or none; and what was said until then are answers to these first lines.
+/// At each moment of lines that are done one behind the other, whatever a stop leaves of the files of all devices restores to the world
+/// behind the first of these lines, with the next one's command under way or none; what was said until then are the answers to these first
+/// lines, all but the last whole; and the files hold whatever was acknowledged in it.
 pub fn stop_law()
     ensures { (p : Program) (lines : List DoneLine) (before after : WorldState) (old new : Seen) (w : World) → old.told ≡ true → Acts p lines before after old new → IsWorldOf p w before old →
         Throughout (past_in 0 old) (past_in 0 new) (Stops p w lines (past_in 0 old)) }
 {}
 
-/// Files that restore to a world are files over which a session may begin: the update log behind them goes on, and each device begins at
-/// the number of the last entry that its files hold. So what a stop left of one run meets what the next one asks of its files.
+/// Files that restore to a world are files over which a session may begin: the update log behind them goes on, and each device begins in
+/// the state after the entries that its files hold, at the number of the last. So what a stop left of one run meets what the next one asks of its files.
 pub fn next_run_law()
     ensures { (p : Program) (w : World) (under_way : Option Done) (files : ℕ → ℕ → List ℕ) (restored : Restores p w under_way files) (s : Seen) →
-        s.told ≡ true → s.trace ≡ [] → s.start ≡ files → GoesOn p w under_way files restored s }
+        IsProgram p → s.told ≡ true → s.trace ≡ [] → s.start ≡ files → GoesOn p w under_way files restored s }
 {}
 
 /// A get of a var says the word to which the last of the device's entries set it, settled or not, and the word at the start of the
