@@ -10,8 +10,9 @@ use Rattle.re_outside.specs.Outside.{Breaks, Counts, Disk, Does, Input, IsAtEnd,
 use Rattle.re_outside.specs.Port.{disk_faults}
 use Rattle.re_record.specs.Stores as stores
 use Rattle.re_record.specs.Stores.{HasStore, OpensTo, Stored}
+use Rattle.re_terms.specs.Admission.{device_count}
 use Rattle.re_terms.specs.declared.program.Program.{Program}
-use Rattle.re_tool.specs.Acts.{Course, FailsNone, FindsUnopened, IsOpening, opens_none, reads, serves}
+use Rattle.re_tool.specs.Acts.{Course, FailsOpening, FindsUnopened, IsOfProgram, IsOpening, opens_none, reads, serves}
 use Rattle.re_session.specs.Acts.{DoneLine}
 use Rattle.re_tool.specs.declared.words.Job.{Job}
 use Rattle.re_tool.specs.declared.words.Job.TheVariants as job
@@ -20,7 +21,7 @@ use Rattle.re_tool.specs.declared.status.Status.{Status}
 use Rattle.re_tool.specs.declared.status.Status.TheVariants as status
 use Rattle.re_tool.specs.Answers.{Outcomes, Session, behind_part, ending, ending_by, ending_in, ending_of, ending_with, reading_end, unopened_end}
 use Rattle.re_tool.specs.Endings.{Ending, Done, RefusedProgram, InputFault, NoMemory, InputTooLong, status_at}
-use Rattle.re_tool.specs.Causes.{Completes, EndCause, FindsStore, InputCause, IsAcceptedPart, IsRead, IsRefusedPart, IsUnlessEnded, OutputCause, ProgramCause, TooLongCause, TooMuch}
+use Rattle.re_tool.specs.Causes.{Completes, EndCause, FindsFault, FindsStore, InputCause, IsAcceptedPart, IsRead, IsRefusedPart, IsUnlessEnded, OutputCause, ProgramCause, TooLongCause, TooMuch}
 use Rattle.re_tool.specs.Lines.{split, ended}
 use Rattle.re_tool.specs.Part.{Part, divided, part_of, part_by, is_over}
 use Rattle.re_tool.specs.Reads.{limit}
@@ -358,6 +359,7 @@ program_cause j a b s r = record {
 
 -- a device doesn't open, as it says here
 pub record IsRefusedOpening (j : Job) (v : Verdict) (u : Option (ℕ × OpenFault)) (a b : Seen) : Type 0 where
+  pub runs : j ≡ job.Run
   pub program : Program
   pub fault : ℕ × OpenFault
   pub accepted : v ≡ Accepted program
@@ -369,7 +371,7 @@ pub record IsRefusedOpening (j : Job) (v : Verdict) (u : Option (ℕ × OpenFaul
 
 refused_opening : (j : Job) (v : Verdict) (u : Option (ℕ × OpenFault)) (session : Option Session) (lines unanswered : List DoneLine) (a b : Seen) → Course j v u session lines unanswered a b → (u ≡ None) ⊎ IsRefusedOpening j v u a b
 refused_opening j v u session lines unanswered a b (reads lacks opens did un does) = inl opens
-refused_opening j v u session lines unanswered a b (opens_none {p} {u = f} {read} {part_read = m} run accepted is lacks did un does opening) = inr (record { program = p; fault = f; accepted = accepted; is = is; read = read; part_read = m; reads_part = does; opening = opening })
+refused_opening j v u session lines unanswered a b (opens_none {p} {u = f} {read} {part_read = m} run accepted is lacks did un does opening) = inr (record { runs = run; program = p; fault = f; accepted = accepted; is = is; read = read; part_read = m; reads_part = does; opening = opening })
 refused_opening j v u session lines unanswered a b (serves run accepted opens is spelled ordered) = inl opens
 
 -- such a status comes of a device that doesn't open alone
@@ -491,9 +493,10 @@ module _ (j : Job) (a b : Seen) (s : Status) (r : Runs j a b s) (h : IsOfStore s
   same_files : a.told ≡ true → (e f : ℕ) → content_in refused_here.0.part_read e f ≡ content_in a e f
   same_files t e f = content_on a refused_here.0.part_read refused_here.0.read [] none t refused_here.0.reads_part e f
 
-  finds_store : a.told ≡ true → (d : ℕ) (stored : Stored) → OpenBefore refused_here.0.program d refused_here.0.part_read → HasStore refused_here.0.program d (content_in refused_here.0.part_read d 0) (content_in refused_here.0.part_read d 1) stored → FindsStore a b refused_here.0.program d stored
-  finds_store t d stored before store = record {
+  finds_store : a.told ≡ true → (d : ℕ) (stored : Stored) → d < device_count refused_here.0.program.decls.items → OpenBefore refused_here.0.program d refused_here.0.part_read → HasStore refused_here.0.program d (content_in refused_here.0.part_read d 0) (content_in refused_here.0.part_read d 1) stored → FindsStore a b refused_here.0.program d stored
+  finds_store t d stored below before store = record {
     accepted = accepted_here t;
+    is_device = below;
     before = before_on refused_here.0.program d a refused_here.0.part_read (same_files t) before;
     store = store_on refused_here.0.program d stored a refused_here.0.part_read (same_files t) store;
   }
@@ -501,17 +504,17 @@ module _ (j : Job) (a b : Seen) (s : Status) (r : Runs j a b s) (h : IsOfStore s
   told_here : a.told ≡ true → refused_here.0.part_read.told ≡ true
   told_here t = refused_here.0.reads_part.moves.told ∙ t
 
-  find_bad : a.told ≡ true → s ≡ status.Store → (u : ℕ × OpenFault) → refused_here.0.fault ≡ u → FindsUnopened refused_here.0.program (Some u) refused_here.0.part_read r.calm → (p : Program) × (d : ℕ) × (file : ℕ) × (at : ℕ) × FindsStore a b p d (stores.Bad file at)
-  find_bad t is (d, unopened.BadStore file at) e f = (refused_here.0.program, d, file, at, finds_store t d (stores.Bad file at) f.0 f.1)
-  find_bad t is (d, unopened.Memory) e f = let no : status.Memory ≡ status.Store = sym (ap (λ x. status_at (unopened_end refused_here.0.program x)) e) ∙ refused_here.1 ∙ is in absurd (cc)
-  find_bad t is (d, unopened.Disk) e f = let no : status.Disk ≡ status.Store = sym (ap (λ x. status_at (unopened_end refused_here.0.program x)) e) ∙ refused_here.1 ∙ is in absurd (cc)
-  find_bad t is (d, unopened.OtherProgram) e f = let no : status.OtherProgram ≡ status.Store = sym (ap (λ x. status_at (unopened_end refused_here.0.program x)) e) ∙ refused_here.1 ∙ is in absurd (cc)
+  find_bad : a.told ≡ true → s ≡ status.Store → (u : ℕ × OpenFault) → refused_here.0.fault ≡ u → IsOfProgram refused_here.0.program (Some u) → FindsUnopened refused_here.0.program (Some u) refused_here.0.part_read r.calm → (p : Program) × (d : ℕ) × (file : ℕ) × (at : ℕ) × FindsStore a b p d (stores.Bad file at)
+  find_bad t is (d, unopened.BadStore file at) e b f = (refused_here.0.program, d, file, at, finds_store t d (stores.Bad file at) b f.0 f.1)
+  find_bad t is (d, unopened.Memory) e b f = let no : status.Memory ≡ status.Store = sym (ap (λ x. status_at (unopened_end refused_here.0.program x)) e) ∙ refused_here.1 ∙ is in absurd (cc)
+  find_bad t is (d, unopened.Disk) e b f = let no : status.Disk ≡ status.Store = sym (ap (λ x. status_at (unopened_end refused_here.0.program x)) e) ∙ refused_here.1 ∙ is in absurd (cc)
+  find_bad t is (d, unopened.OtherProgram) e b f = let no : status.OtherProgram ≡ status.Store = sym (ap (λ x. status_at (unopened_end refused_here.0.program x)) e) ∙ refused_here.1 ∙ is in absurd (cc)
 
-  find_other : a.told ≡ true → s ≡ status.OtherProgram → (u : ℕ × OpenFault) → refused_here.0.fault ≡ u → FindsUnopened refused_here.0.program (Some u) refused_here.0.part_read r.calm → (p : Program) × (d : ℕ) × FindsStore a b p d stores.OtherProgram
-  find_other t is (d, unopened.OtherProgram) e f = (refused_here.0.program, d, finds_store t d stores.OtherProgram f.0 f.1)
-  find_other t is (d, unopened.Memory) e f = let no : status.Memory ≡ status.OtherProgram = sym (ap (λ x. status_at (unopened_end refused_here.0.program x)) e) ∙ refused_here.1 ∙ is in absurd (cc)
-  find_other t is (d, unopened.Disk) e f = let no : status.Disk ≡ status.OtherProgram = sym (ap (λ x. status_at (unopened_end refused_here.0.program x)) e) ∙ refused_here.1 ∙ is in absurd (cc)
-  find_other t is (d, unopened.BadStore file at) e f = let no : status.Store ≡ status.OtherProgram = sym (ap (λ x. status_at (unopened_end refused_here.0.program x)) e) ∙ refused_here.1 ∙ is in absurd (cc)
+  find_other : a.told ≡ true → s ≡ status.OtherProgram → (u : ℕ × OpenFault) → refused_here.0.fault ≡ u → IsOfProgram refused_here.0.program (Some u) → FindsUnopened refused_here.0.program (Some u) refused_here.0.part_read r.calm → (p : Program) × (d : ℕ) × FindsStore a b p d stores.OtherProgram
+  find_other t is (d, unopened.OtherProgram) e b f = (refused_here.0.program, d, finds_store t d stores.OtherProgram b f.0 f.1)
+  find_other t is (d, unopened.Memory) e b f = let no : status.Memory ≡ status.OtherProgram = sym (ap (λ x. status_at (unopened_end refused_here.0.program x)) e) ∙ refused_here.1 ∙ is in absurd (cc)
+  find_other t is (d, unopened.Disk) e b f = let no : status.Disk ≡ status.OtherProgram = sym (ap (λ x. status_at (unopened_end refused_here.0.program x)) e) ∙ refused_here.1 ∙ is in absurd (cc)
+  find_other t is (d, unopened.BadStore file at) e b f = let no : status.Store ≡ status.OtherProgram = sym (ap (λ x. status_at (unopened_end refused_here.0.program x)) e) ∙ refused_here.1 ∙ is in absurd (cc)
 
   rose_here : (d : ℕ) → Rose (disk_faults d refused_here.0.part_read) (disk_faults d r.calm) → Rose (disk_faults d a) (disk_faults d b)
   rose_here d rose =
@@ -519,20 +522,28 @@ module _ (j : Job) (a b : Seen) (s : Status) (r : Runs j a b s) (h : IsOfStore s
       let last = quiet_closes r.halted b r.last s r.closes d ∙ quiet_halts r.outcomes.input_failed r.calm r.halted r.halts d in
       subst (λ x. Rose x (disk_faults d b)) first (subst (λ x. Rose (disk_faults d refused_here.0.part_read) x) (sym last) rose)
 
-  find_disk : s ≡ status.Disk → (u : ℕ × OpenFault) → refused_here.0.fault ≡ u → FailsNone (Some u) refused_here.0.part_read r.calm → (d : ℕ) × Rose (disk_faults d a) (disk_faults d b)
-  find_disk is (d, unopened.Disk) e f = (d, rose_here d f)
-  find_disk is (d, unopened.Memory) e f = let no : status.Memory ≡ status.Disk = sym (ap (λ x. status_at (unopened_end refused_here.0.program x)) e) ∙ refused_here.1 ∙ is in absurd (cc)
-  find_disk is (d, unopened.BadStore file at) e f = let no : status.Store ≡ status.Disk = sym (ap (λ x. status_at (unopened_end refused_here.0.program x)) e) ∙ refused_here.1 ∙ is in absurd (cc)
-  find_disk is (d, unopened.OtherProgram) e f = let no : status.OtherProgram ≡ status.Disk = sym (ap (λ x. status_at (unopened_end refused_here.0.program x)) e) ∙ refused_here.1 ∙ is in absurd (cc)
+  find_disk : s ≡ status.Disk → (u : ℕ × OpenFault) → refused_here.0.fault ≡ u → IsOfProgram refused_here.0.program (Some u) → (a.told ≡ true → FindsUnopened refused_here.0.program (Some u) refused_here.0.part_read r.calm) → FailsOpening (Some u) refused_here.0.part_read r.calm → (p : Program) × (d : ℕ) × FindsFault a b p d
+  find_disk is (d, unopened.Disk) e below opens f = (refused_here.0.program, d, record {
+    rose = rose_here d f.0;
+    is_device = below;
+    accepted = accepted_here;
+    before = λ t. before_on refused_here.0.program d a refused_here.0.part_read (same_files t) (opens t).0;
+  })
+  find_disk is (d, unopened.Memory) e below opens f = let no : status.Memory ≡ status.Disk = sym (ap (λ x. status_at (unopened_end refused_here.0.program x)) e) ∙ refused_here.1 ∙ is in absurd (cc)
+  find_disk is (d, unopened.BadStore file at) e below opens f = let no : status.Store ≡ status.Disk = sym (ap (λ x. status_at (unopened_end refused_here.0.program x)) e) ∙ refused_here.1 ∙ is in absurd (cc)
+  find_disk is (d, unopened.OtherProgram) e below opens f = let no : status.OtherProgram ≡ status.Disk = sym (ap (λ x. status_at (unopened_end refused_here.0.program x)) e) ∙ refused_here.1 ∙ is in absurd (cc)
 
   pub bad_found : a.told ≡ true → s ≡ status.Store → (p : Program) × (d : ℕ) × (file : ℕ) × (at : ℕ) × FindsStore a b p d (stores.Bad file at)
-  bad_found t is = find_bad t is refused_here.0.fault refl (refused_here.0.opening.finds (told_here t))
+  bad_found t is = find_bad t is refused_here.0.fault refl refused_here.0.opening.of_program (refused_here.0.opening.finds (told_here t))
 
   pub other_found : a.told ≡ true → s ≡ status.OtherProgram → (p : Program) × (d : ℕ) × FindsStore a b p d stores.OtherProgram
-  other_found t is = find_other t is refused_here.0.fault refl (refused_here.0.opening.finds (told_here t))
+  other_found t is = find_other t is refused_here.0.fault refl refused_here.0.opening.of_program (refused_here.0.opening.finds (told_here t))
 
-  pub disk_found : s ≡ status.Disk → (d : ℕ) × Rose (disk_faults d a) (disk_faults d b)
-  disk_found is = find_disk is refused_here.0.fault refl refused_here.0.opening.failed
+  pub disk_found : s ≡ status.Disk → (p : Program) × (d : ℕ) × FindsFault a b p d
+  disk_found is = find_disk is refused_here.0.fault refl refused_here.0.opening.of_program (λ t. refused_here.0.opening.finds (told_here t)) refused_here.0.opening.failed
+
+  pub runs_found : j ≡ job.Run
+  runs_found = refused_here.0.runs
 
 -- at these statuses the program part was read whole
 pub far_at : (j : Job) (a b : Seen) (s : Status) (r : Runs j a b s) → IsOfStore s → HasSeparator r.read ⊎ IsAtEnd b
@@ -557,8 +568,12 @@ pub other_here : (j : Job) (a b : Seen) (s : Status) → Runs j a b s → a.told
 other_here j a b s r t is = let h : IsOfStore s = inr (inr is) in other_found j a b s r h (far_at j a b s r h) t is
 
 -- a disk that failed
-pub disk_here : (j : Job) (a b : Seen) (s : Status) → Runs j a b s → s ≡ status.Disk → (d : ℕ) × Rose (disk_faults d a) (disk_faults d b)
+pub disk_here : (j : Job) (a b : Seen) (s : Status) → Runs j a b s → s ≡ status.Disk → (p : Program) × (d : ℕ) × FindsFault a b p d
 disk_here j a b s r is = let h : IsOfStore s = inl is in disk_found j a b s r h (far_at j a b s r h) is
+
+-- it is `run` that opens devices
+runs_here : (j : Job) (a b : Seen) (s : Status) → Runs j a b s → IsOfStore s → j ≡ job.Run
+runs_here j a b s r h = runs_found j a b s r h (far_at j a b s r h)
 
 counts_rose : (before now : ℕ) → Rose before now → Counts 1 before now
 counts_rose before now h = (λ e. absurd (cc), h)
@@ -665,7 +680,7 @@ run_line j a b r = ending_line (is_over r.read) r.outcomes.input_failed (in_part
     ending_line false true h = cc
     ending_line false false h = cc
 
-pub completes : (j : Job) (a b : Seen) (s : Status) → Runs j a b s → Completes a b s
+pub completes : (j : Job) (a b : Seen) (s : Status) → Runs j a b s → Completes j a b s
 completes j a b status.Done r u = inl refl
 completes j a b status.Memory r u = inr refl
 completes j a b status.Program r u = absurd (u.accepted (at_program j a b r u.told))
@@ -673,7 +688,7 @@ completes j a b status.Input r u = absurd (u.quiet Input (at_input j a b r))
 completes j a b status.Output r u = absurd (u.quiet Output (output_cause j a b status.Output r))
 completes j a b status.TooLong r u = absurd (u.few (at_too_long j a b r u.told))
 completes j a b status.Words r u = absurd (run_words j a b r)
-completes j a b status.Store r u = let f = bad_here j a b status.Store r u.told refl in absurd (u.bad f.0 f.1 f.2 f.3 f.4)
-completes j a b status.OtherProgram r u = let f = other_here j a b status.OtherProgram r u.told refl in absurd (u.others f.0 f.1 f.2)
-completes j a b status.Disk r u = let f = disk_here j a b status.Disk r refl in absurd (u.quiet (Disk f.0) (counts_rose _ _ f.1))
+completes j a b status.Store r u = let f = bad_here j a b status.Store r u.told refl in absurd (u.bad (runs_here j a b status.Store r (inr (inl refl))) f.0 f.1 f.2 f.3 f.4)
+completes j a b status.OtherProgram r u = let f = other_here j a b status.OtherProgram r u.told refl in absurd (u.others (runs_here j a b status.OtherProgram r (inr (inr refl))) f.0 f.1 f.2)
+completes j a b status.Disk r u = let f = disk_here j a b status.Disk r refl in absurd (u.quiet (Disk f.1) (counts_rose _ _ f.2.rose))
 completes j a b status.Line r u = absurd (run_line j a b r)

@@ -19,7 +19,7 @@ use Rattle.re_terms.specs.Programs.{IsProgram}
 use Rattle.re_terms.specs.Runs.{PlainState}
 use Rattle.re_terms.specs.Updates.{Update}
 use Rattle.re_terms.specs.declared.program.Program.{Program}
-use Rattle.re_tool.specs.Acts.{FailsNone, IsOpening, IsWhy, OpensAs}
+use Rattle.re_tool.specs.Acts.{FailsOpening, IsOpening, IsWhy, OpensAs}
 use Rattle.re_world.proofs.Opened.{same_refusal}
 use Rattle.re_world.proofs.OpeningSteps.{all_handed}
 use Rattle.re_world.specs.Images.{Restores}
@@ -47,6 +47,7 @@ pub record Given (p : Program) (old new : Seen) (r : Result WorldState (ℕ × O
   pub first : (d : ℕ) (fault : OpenFault) → tells ≡ true → r ≡ Err (d, fault) → OpenBefore p d old
   pub steps : tells ≡ true → HasAllOpeningSteps p (past_in 0 old) (past_in 0 new) r
   pub left : tells ≡ true → new.left ≡ old.left
+  pub number : (d : ℕ) (fault : OpenFault) → r ≡ Err (d, fault) → d < device_count p.decls.items
 
 module _ (p : Program) (old new : Seen) (tells : Bool) where
   module _ (r : Result WorldState (ℕ × OpenFault)) (g : Given p old new r tells) where
@@ -69,6 +70,7 @@ module _ (p : Program) (old new : Seen) (tells : Bool) where
       is_program = g.is_program;
       finds = λ t. g.all (tells_here (Ok v) g t);
       steps = λ t. g.steps (tells_here (Ok v) g t);
+      of_program = tt;
       failed = calm_ok v g;
       restores = restores_here (Ok v) g;
       goes = goes_here (Ok v) g;
@@ -85,8 +87,8 @@ module _ (p : Program) (old new : Seen) (tells : Bool) where
   why d (unopened.BadStore file at) g t = g.bad d file at t refl
   why d unopened.OtherProgram g t = g.other d t refl
 
-  fails : (d : ℕ) (fault : OpenFault) → Given p old new (Err (d, fault)) tells → FailsNone (Some (d, fault)) old new
-  fails d unopened.Disk g = g.disk d refl
+  fails : (d : ℕ) (fault : OpenFault) → Given p old new (Err (d, fault)) tells → FailsOpening (Some (d, fault)) old new
+  fails d unopened.Disk g = (g.disk d refl, g.others d refl)
   fails d unopened.Memory g = g.calm (λ e is. let no : unopened.Memory ≡ unopened.Disk = (same_refusal {T = WorldState} d e unopened.Memory unopened.Disk is).1 in absurd (cc))
   fails d (unopened.BadStore file at) g = g.calm (λ e is. let no : unopened.BadStore file at ≡ unopened.Disk = (same_refusal {T = WorldState} d e (unopened.BadStore file at) unopened.Disk is).1 in absurd (cc))
   fails d unopened.OtherProgram g = g.calm (λ e is. let no : unopened.OtherProgram ≡ unopened.Disk = (same_refusal {T = WorldState} d e unopened.OtherProgram unopened.Disk is).1 in absurd (cc))
@@ -97,6 +99,7 @@ module _ (p : Program) (old new : Seen) (tells : Bool) where
     is_program = g.is_program;
     finds = λ t. let here = tells_here (Err (d, fault)) g t in (g.first d fault here refl, why d fault g here);
     steps = λ t. all_handed WorldState {U = ⊤} p (Err (d, fault)) (d, fault) (past_in 0 old) (past_in 0 new) refl (g.steps (tells_here (Err (d, fault)) g t));
+    of_program = g.number d fault refl;
     failed = fails d fault g;
     restores = restores_here (Err (d, fault)) g;
     goes = goes_here (Err (d, fault)) g;

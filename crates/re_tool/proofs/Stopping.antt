@@ -1,5 +1,5 @@
 -- What a stop leaves at each moment of a run.
-use Rattle.std.proofs.Common.{◌≡◌, ◌++◌, ◌∷◌, [], ℕ, Bool, false, true, List, None, Option, Some, ap, inl, inr, refl, subst, sym, ◌∙◌}
+use Rattle.std.proofs.Common.{◌≡◌, ◌++◌, ◌∷◌, [], ℕ, Bool, false, true, List, None, Option, Some, ap, inl, refl, subst, sym, ◌∙◌}
 use Rattle.std.specs.Prelude.{map}
 use Rattle.std.proofs.lemmas.List.{append-nil, map-append}
 use Rattle.re_compact.specs.declared.fault.OpenFault.{OpenFault}
@@ -16,14 +16,15 @@ use Rattle.re_session.specs.Acts.{DoneLine}
 use Rattle.re_session.specs.Begins.{Begins}
 use Rattle.re_session.specs.LineAnswers.{lines_after}
 use Rattle.re_session.specs.Serving.{Goes}
-use Rattle.re_session.specs.Stops.{Stops, StopsAfter, world_of}
+use Rattle.re_session.proofs.Acknowledged.{holds_told}
+use Rattle.re_session.specs.Stops.{Stops, texts_of, world_of}
 use Rattle.re_terms.specs.DeviceWorlds.{World}
 use Rattle.re_terms.specs.Programs.{IsProgram}
 use Rattle.re_terms.specs.declared.program.Program.{Program}
 use Rattle.re_tool.specs.Acts.{Course, DoesLast, IsOpening, Ordered, opens_none, reads, serves}
 use Rattle.re_tool.specs.Answers.{Session, done}
 use Rattle.re_tool.specs.Session.{Closes, Halts, Runs}
-use Rattle.re_tool.specs.Stops.{LeavesStart, LeavesWorld, Survives}
+use Rattle.re_tool.specs.Stops.{LeavesAll, LeavesStart, Survives, SurvivesLines}
 use Rattle.re_tool.specs.Verdict.{Accepted}
 use Rattle.re_tool.specs.declared.status.Status.{Status}
 use Rattle.re_tool.specs.declared.status.Status.TheVariants as status
@@ -117,7 +118,7 @@ world_more p w lines more =
 
 -- the line that has no whole answer
 last_stops : (p : Program) (u : World) (lines : List DoneLine) (v v' : WorldState) (a b : Seen) (base : Past) → a.told ≡ true → said a.trace ≡ said base.trace → IsWorldOf p u v a → DoesLast p lines v v' a b → Throughout (past_in 0 a) (past_in 0 b) (Stops p u lines base)
-last_stops p u [] v v' a b base told says is d = no_step (past_in 0 a) (past_in 0 b) (Stops p u [] base) (ap (past_in 0) d.1) (λ files images. stop_here p u [] base (past_in 0 a) files None says tt (rest_restores p u v a files is images))
+last_stops p u [] v v' a b base told says is d = no_step (past_in 0 a) (past_in 0 b) (Stops p u [] base) (ap (past_in 0) d.1) (stop_here p u [] base (past_in 0 a) None says tt (λ files images. rest_restores p u v a files is images))
 last_stops p u (l ∷ []) v v' a b base told says is d = stops_line p u l [] v v' a b base told says is d
 last_stops p u (l ∷ m ∷ lines) v v' a b base told says is d = absurd d
 
@@ -127,17 +128,27 @@ last_world p u (l ∷ []) v v' a b told is d = ((line_goes p l.line v v' l.answe
 last_world p u (l ∷ m ∷ lines) v v' a b told is d = absurd d
 
 -- the same since an earlier moment, from which nothing was said
-rebased : (p : Program) (w : World) (lines : List DoneLine) (base earlier now : Past) (files : ℕ → ℕ → List ℕ) → said base.trace ≡ said earlier.trace → StopsAfter p w lines base now files → StopsAfter p w lines earlier now files
-rebased p w lines base earlier now files same s = record {
+rebased : (p : Program) (w : World) (lines : List DoneLine) (base earlier now : Past) → said base.trace ≡ said earlier.trace → Stops p w lines base now → Stops p w lines earlier now
+rebased p w lines base earlier now same s = record {
   answered = s.answered;
   within = s.within;
   under_way = s.under_way;
   is_next = s.is_next;
-  restores = s.restores;
   text = s.text;
   says = s.says ∙ ap (λ t. t ++ s.text) same;
   rest = s.rest;
   front = s.front;
+  all_but_last = s.all_but_last;
+  begins = s.begins;
+  restores = s.restores;
+  holds = s.holds;
+}
+
+-- a world at rest behind all lines
+leaves_all : (p : Program) (w : World) (lines : List DoneLine) (v : WorldState) (s : Seen) (now : Past) → IsWorldOf p (world_of p w lines) v s → ((files : ℕ → ℕ → List ℕ) → IsJointImage now files → IsJointImage (past_in 0 s) files) → LeavesAll p w lines now
+leaves_all p w lines v s now is were = record {
+  restores = λ files images. rest_restores p (world_of p w lines) v s files is (were files images);
+  holds = λ files images. holds_told p w lines (texts_of p w lines) None files (rest_restores p (world_of p w lines) v s files is (were files images));
 }
 
 module _ (old calm : Seen) (p : Program) (w : World) (lines unanswered : List DoneLine) (last : WorldState) (o : Ordered old calm p lines unanswered last) (begins : Begins p w old) where
@@ -187,33 +198,35 @@ module _ (old calm : Seen) (p : Program) (w : World) (lines unanswered : List Do
   in_lines = stops_acts p w o.answered unanswered o.devices o.before o.opened o.mid calm opened_told opened_is o.acts behind_lines
 
   -- before the opening's end nothing is said, and what a stop leaves restores to the start
-  before_lines : Throughout (past_in 0 old) (past_in 0 o.opened) (LeavesWorld p w lines (past_in 0 old))
+  before_lines : Throughout (past_in 0 old) (past_in 0 o.opened) (Stops p w lines (past_in 0 old))
   before_lines =
-      join (past_in 0 old) (past_in 0 o.part_read) (past_in 0 o.opened) (LeavesWorld p w lines (past_in 0 old))
-      (weaken (past_in 0 old) (past_in 0 o.part_read) (While old []) (LeavesWorld p w lines (past_in 0 old))
-      (λ now here files images.
+      join (past_in 0 old) (past_in 0 o.part_read) (past_in 0 o.opened) (Stops p w lines (past_in 0 old))
+      (weaken (past_in 0 old) (past_in 0 o.part_read) (While old []) (Stops p w lines (past_in 0 old))
+      (λ now here.
       let quiet : here.front ≡ [] = none_front here.front here.tail here.whole in
       let says : said now.trace ≡ said old.trace = here.says ∙ ap (λ t. said old.trace ++ t) quiet ∙ append-nil (said old.trace) in
-      inl (stop_here p w lines (past_in 0 old) now files None says tt (start_left p w old [] now o.opens.opening.is_program begins here files images)))
+      stop_here p w lines (past_in 0 old) now None says tt (start_left p w old [] now o.opens.opening.is_program begins here))
       (throughout_outputs old o.part_read o.part [] none begins.told o.reads_part))
-      (weaken (past_in 0 o.part_read) (past_in 0 o.opened) (Quiet o.part_read (LeavesStart p w)) (LeavesWorld p w lines (past_in 0 old))
-      (λ now here files images. inl (stop_here p w lines (past_in 0 old) now files None (here.says ∙ said_part) tt (here.holds files images)))
+      (weaken (past_in 0 o.part_read) (past_in 0 o.opened) (Quiet o.part_read (LeavesStart p w)) (Stops p w lines (past_in 0 old))
+      (λ now here. stop_here p w lines (past_in 0 old) now None (here.says ∙ said_part) tt here.holds)
       (quiet_moments o.part_read o.opened (LeavesStart p w) begins_part.told o.opens.opening.goes (o.opens.opening.restores w begins_part)))
 
   -- at each moment up to the last line's end
-  pub all_lines : Throughout (past_in 0 old) (past_in 0 calm) (LeavesWorld p w lines (past_in 0 old))
+  pub all_lines : Throughout (past_in 0 old) (past_in 0 calm) (Stops p w lines (past_in 0 old))
   all_lines =
-      join (past_in 0 old) (past_in 0 o.opened) (past_in 0 calm) (LeavesWorld p w lines (past_in 0 old)) before_lines
-      (weaken (past_in 0 o.opened) (past_in 0 calm) (Stops p w (o.answered ++ unanswered) (past_in 0 o.opened)) (LeavesWorld p w lines (past_in 0 old))
-      (λ now here files images. inl (subst (λ l. StopsAfter p w l (past_in 0 old) now files) (sym o.these) (rebased p w (o.answered ++ unanswered) (past_in 0 o.opened) (past_in 0 old) now files said_opened (here files images))))
+      join (past_in 0 old) (past_in 0 o.opened) (past_in 0 calm) (Stops p w lines (past_in 0 old)) before_lines
+      (weaken (past_in 0 o.opened) (past_in 0 calm) (Stops p w (o.answered ++ unanswered) (past_in 0 o.opened)) (Stops p w lines (past_in 0 old))
+      (λ now here. subst (λ l. Stops p w l (past_in 0 old) now) (sym o.these) (rebased p w (o.answered ++ unanswered) (past_in 0 o.opened) (past_in 0 old) now said_opened here))
       in_lines)
 
   -- and to the end of what is said behind them
-  pub whole_run : (halted new : Seen) (failed : Bool) (text : List ℕ) (s : Status) → Halts failed calm halted → Closes halted new text s → Throughout (past_in 0 old) (past_in 0 new) (LeavesWorld p w lines (past_in 0 old))
-  whole_run halted new failed text s halts closes =
-      join (past_in 0 old) (past_in 0 calm) (past_in 0 new) (LeavesWorld p w lines (past_in 0 old)) all_lines
-      (last_outputs calm halted new failed text s (LeavesWorld p w lines (past_in 0 old)) all_world.0 halts closes
-      (λ now kept files images. inr (rest_restores p (world_of p w lines) last calm files all_world.1 (λ d g. (kept d g).images (files d g) (images d g)))))
+  pub whole_run : (halted new : Seen) (failed : Bool) (text : List ℕ) (s : Status) → Halts failed calm halted → Closes halted new text s → SurvivesLines p w lines (past_in 0 old) (past_in 0 calm) (past_in 0 new)
+  whole_run halted new failed text s halts closes = record {
+    during = all_lines;
+    behind =
+        last_outputs calm halted new failed text s (LeavesAll p w lines) all_world.0 halts closes
+        (λ now kept. leaves_all p w lines last calm now all_world.1 (λ files images d g. (kept d g).images (files d g) (images d g)));
+  }
 
 -- ---- a whole run
 
@@ -253,7 +266,7 @@ module _ (j : Job) (old new : Seen) (s : Status) (r : Runs j old new s) where
   abbrev has : Option Session
   has = done j r.verdict r.read r.outcomes
 
-  by_session : (x : Session) (w : World) → has ≡ Some x → Begins x.program w old → Course j r.verdict r.outcomes.unopened has r.lines r.unanswered old r.calm → Throughout (past_in 0 old) (past_in 0 new) (LeavesWorld x.program w r.lines (past_in 0 old))
+  by_session : (x : Session) (w : World) → has ≡ Some x → Begins x.program w old → Course j r.verdict r.outcomes.unopened has r.lines r.unanswered old r.calm → SurvivesLines x.program w r.lines (past_in 0 old) (past_in 0 r.calm) (past_in 0 new)
   by_session x w is begins (reads lacks opens did un does) = let no : ◌≡◌ {A = Option Session} (Some x) None = sym is ∙ lacks in absurd (cc)
   by_session x w is begins (opens_none run accepted fault lacks did un does opening) = let no : ◌≡◌ {A = Option Session} (Some x) None = sym is ∙ lacks in absurd (cc)
   by_session x w is begins (serves {s = y} {last = last} run accepted opens own spelled ordered) =

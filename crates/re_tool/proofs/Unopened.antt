@@ -14,7 +14,7 @@ use Rattle.re_record.specs.Stores.{HasStore, OpensTo, Stored, opened}
 use Rattle.re_terms.specs.Admission.{device_count}
 use Rattle.re_terms.specs.Programs.{IsProgram}
 use Rattle.re_terms.specs.declared.program.Program.{Program}
-use Rattle.re_tool.specs.Acts.{Course, FailsNone, FindsUnopened, IsOpening, IsWhy, opens_none, reads, serves}
+use Rattle.re_tool.specs.Acts.{Course, FailsOpening, FindsUnopened, IsOpening, IsWhy, opens_none, reads, serves}
 use Rattle.re_tool.specs.Answers.{done, done_by, ending, ending_in, reading_end, session_in, unopened_end}
 use Rattle.re_tool.specs.Causes.{IsUnlessEnded, OpeningCause, store_status}
 use Rattle.re_tool.specs.Endings.{NoMemory, status_at}
@@ -73,9 +73,9 @@ module _ (p : Program) (is_program : IsProgram p) (d : ℕ) (below : d < device_
   not_all all = let o = before_on p (device_count p.decls.items) a m same all d below in not_opens p is_program d below (content_in a d 0) (content_in a d 1) stored wanted refused has o.0 o.1
 
   -- a device before it that isn't refused
-  earlier : (e : ℕ) (fault : OpenFault) → e < d → IsWhy p e fault m calm → FailsNone (Some (e, fault)) m calm → fault ≡ unopened.Memory
+  earlier : (e : ℕ) (fault : OpenFault) → e < d → IsWhy p e fault m calm → FailsOpening (Some (e, fault)) m calm → fault ≡ unopened.Memory
   earlier e unopened.Memory less why fails = refl
-  earlier e unopened.Disk less why fails = absurd (calm_disks e fails)
+  earlier e unopened.Disk less why fails = absurd (calm_disks e fails.0)
   earlier e (unopened.BadStore file at) less why fails =
       let o = before e less in
       absurd (not_opens p is_program e (omega (arith, less, below)) (content_in a e 0) (content_in a e 1) (stores.Bad file at) status.Store refl (store_on p e (stores.Bad file at) a m same why) o.0 o.1)
@@ -84,19 +84,19 @@ module _ (p : Program) (is_program : IsProgram p) (d : ℕ) (below : d < device_
       absurd (not_opens p is_program e (omega (arith, less, below)) (content_in a e 0) (content_in a e 1) stores.OtherProgram status.OtherProgram refl (store_on p e stores.OtherProgram a m same why) o.0 o.1)
 
   -- the device itself
-  itself : (fault : OpenFault) → IsWhy p d fault m calm → FailsNone (Some (d, fault)) m calm → (fault ≡ unopened.Memory) ⊎ (status_at (unopened_end p (d, fault)) ≡ wanted)
+  itself : (fault : OpenFault) → IsWhy p d fault m calm → FailsOpening (Some (d, fault)) m calm → (fault ≡ unopened.Memory) ⊎ (status_at (unopened_end p (d, fault)) ≡ wanted)
   itself unopened.Memory why fails = inl refl
-  itself unopened.Disk why fails = absurd (calm_disks d fails)
+  itself unopened.Disk why fails = absurd (calm_disks d fails.0)
   itself (unopened.BadStore file at) why fails = inr (same_status p is_program d below (content_in a d 0) (content_in a d 1) stored wanted refused has (stores.Bad file at) status.Store refl (store_on p d (stores.Bad file at) a m same why))
   itself unopened.OtherProgram why fails = inr (same_status p is_program d below (content_in a d 0) (content_in a d 1) stored wanted refused has stores.OtherProgram status.OtherProgram refl (store_on p d stores.OtherProgram a m same why))
 
   -- so the run ends for it, or for want of memory
-  pub ends_for : (e : ℕ) (fault : OpenFault) → FindsUnopened p (Some (e, fault)) m calm → FailsNone (Some (e, fault)) m calm → (status_at (unopened_end p (e, fault)) ≡ status.Memory) ⊎ (status_at (unopened_end p (e, fault)) ≡ wanted)
+  pub ends_for : (e : ℕ) (fault : OpenFault) → FindsUnopened p (Some (e, fault)) m calm → FailsOpening (Some (e, fault)) m calm → (status_at (unopened_end p (e, fault)) ≡ status.Memory) ⊎ (status_at (unopened_end p (e, fault)) ≡ wanted)
   ends_for e fault finds fails = by (sides d e)
     where
       by : (e < d) ⊎ ((d ≡ e) ⊎ (d < e)) → (status_at (unopened_end p (e, fault)) ≡ status.Memory) ⊎ (status_at (unopened_end p (e, fault)) ≡ wanted)
       by (inl less) = inl (ap (λ f. status_at (unopened_end p (e, f))) (earlier e fault less finds.1 fails))
-      by (inr (inl is)) = own (itself fault (subst (λ n. IsWhy p n fault m calm) (sym is) finds.1) (subst (λ n. FailsNone (Some (n, fault)) m calm) (sym is) fails))
+      by (inr (inl is)) = own (itself fault (subst (λ n. IsWhy p n fault m calm) (sym is) finds.1) (subst (λ n. FailsOpening (Some (n, fault)) m calm) (sym is) fails))
         where
           own : (fault ≡ unopened.Memory) ⊎ (status_at (unopened_end p (d, fault)) ≡ wanted) → (status_at (unopened_end p (e, fault)) ≡ status.Memory) ⊎ (status_at (unopened_end p (e, fault)) ≡ wanted)
           own (inl memory) = inl (ap (λ f. status_at (unopened_end p (e, f))) memory)

@@ -22,7 +22,7 @@ use Rattle.re_tool.specs.Verdict.{Accepted, Verdict}
 use Rattle.re_tool.specs.declared.words.Job.{Job}
 use Rattle.re_tool.specs.declared.words.Job.TheVariants as job
 use Rattle.re_world.specs.Images.{Restores}
-use Rattle.re_world.specs.Opening.{HasAllOpeningSteps, IsOpened, OpenBefore}
+use Rattle.re_world.specs.Opening.{HasAllOpeningSteps, HasOpeningCause, IsOpened, OpenBefore}
 use Rattle.re_world.specs.Standing.{IsWorldOf}
 use Rattle.re_world.specs.State.{WorldState, device_in}
 
@@ -45,17 +45,22 @@ abbrev pub opening_result : Option (ℕ × OpenFault) → Result ⊤ (ℕ × Ope
 opening_result None = Ok tt
 opening_result (Some u) = Err u
 
--- no call failed, unless the disk of this device is why it doesn't open
-abbrev pub FailsNone : Option (ℕ × OpenFault) → Seen → Seen → Type 0
-FailsNone (Some (d, unopened.Disk)) old new = Rose (disk_faults d old) (disk_faults d new)
-FailsNone u old new = new.faults ≡ old.faults
+-- it is one of the program
+abbrev pub IsOfProgram : Program → Option (ℕ × OpenFault) → Type 0
+IsOfProgram p None = Unit {0}
+IsOfProgram p (Some (d, fault)) = d < device_count p.decls.items
+
+-- no call failed, unless the disk of this device is why it doesn't open, and then calls of no other device or kind
+abbrev pub FailsOpening : Option (ℕ × OpenFault) → Seen → Seen → Type 0
+FailsOpening unopened old new = HasOpeningCause {T = ⊤} old new (opening_result unopened)
 
 -- The devices are opened in order, up to the first that doesn't open, and nothing is said.
 pub record IsOpening (p : Program) (unopened : Option (ℕ × OpenFault)) (old new : Seen) : Type 0 where
   pub is_program : IsProgram p
   pub finds : old.told ≡ true → FindsUnopened p unopened old new
   pub steps : old.told ≡ true → HasAllOpeningSteps p (past_in 0 old) (past_in 0 new) (opening_result unopened)
-  pub failed : FailsNone unopened old new
+  pub of_program : IsOfProgram p unopened
+  pub failed : FailsOpening unopened old new
   -- a stop at any moment leaves files that stand for the world at the start
   pub restores : (w : World) → Begins p w old → Throughout (past_in 0 old) (past_in 0 new) (λ now. (files : ℕ → ℕ → List ℕ) → IsJointImage now files → Restores p w None files)
   pub goes : Goes old new [] []

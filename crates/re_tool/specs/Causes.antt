@@ -89,8 +89,16 @@ pub record IsAcceptedPart (old new : Seen) (p : Program) : Type 0 where
 -- Of an accepted program the files of this device read as this, and each device before it opens.
 pub record FindsStore (old new : Seen) (p : Program) (d : ℕ) (stored : Stored) : Type 0 where
   pub accepted : IsAcceptedPart old new p
+  pub is_device : d < device_count p.decls.items
   pub before : OpenBefore p d old
   pub store : HasStore p d (content_in old d 0) (content_in old d 1) stored
+
+-- The calls of this device of a program failed; where the outside tells what is seen the program was accepted, and each device before it opens.
+pub record FindsFault (old new : Seen) (p : Program) (d : ℕ) : Type 0 where
+  pub rose : Rose (disk_faults d old) (disk_faults d new)
+  pub is_device : d < device_count p.decls.items
+  pub accepted : old.told ≡ true → IsAcceptedPart old new p
+  pub before : old.told ≡ true → OpenBefore p d old
 
 -- the status of a device whose files read as this, where they don't open
 abbrev pub store_status : Stored → Option Status
@@ -102,20 +110,20 @@ store_status stored = None
 pub record OpeningCause (j : Job) (old new : Seen) (s : Status) : Type 0 where
   pub bad : old.told ≡ true → s ≡ status.Store → (p : Program) × (d : ℕ) × (file : ℕ) × (at : ℕ) × FindsStore old new p d (stores.Bad file at)
   pub other : old.told ≡ true → s ≡ status.OtherProgram → (p : Program) × (d : ℕ) × FindsStore old new p d stores.OtherProgram
-  pub disk : s ≡ status.Disk → (d : ℕ) × Rose (disk_faults d old) (disk_faults d new)
+  pub disk : s ≡ status.Disk → (p : Program) × (d : ℕ) × FindsFault old new p d
   -- where the separator was read, the lines before it are this program, all its devices before one open, the files of that one read so, and the count of no disk rose
   pub always : (read : List ℕ) (front back : List (List ℕ)) (p : Program) (d : ℕ) (stored : Stored) (wanted : Status) → j ≡ job.Run → old.told ≡ true → old.left ≡ read ++ new.left → divided (split (take limit read)).0 ≡ Some (front, back) → HasVerdict (flat_map ended front) (Accepted p)
       → OpenBefore p d old → d < device_count p.decls.items → HasStore p d (content_in old d 0) (content_in old d 1) stored → store_status stored ≡ Some wanted → ((e : ℕ) → Rose (disk_faults e old) (disk_faults e new) → ⊥) → IsUnlessEnded wanted s
 
--- No count of faults rose, no byte too many came, the program part, if it was read whole, isn't refused, and no store is bad or another program's.
-pub record IsUntroubled (old new : Seen) : Type 0 where
+-- No count of faults rose, no byte too many came, the program part, if it was read whole, isn't refused, and for `run` no store is bad or another program's.
+pub record IsUntroubled (j : Job) (old new : Seen) : Type 0 where
   pub told : old.told ≡ true
   pub quiet : (kind : FaultKind) → Counts 1 (old.faults kind) (new.faults kind) → ⊥
   pub few : TooMuch old new → ⊥
   pub accepted : IsRefusedPart old new → ⊥
-  pub bad : (p : Program) (d file at : ℕ) → FindsStore old new p d (stores.Bad file at) → ⊥
-  pub others : (p : Program) (d : ℕ) → FindsStore old new p d stores.OtherProgram → ⊥
+  pub bad : j ≡ job.Run → (p : Program) (d file at : ℕ) → FindsStore old new p d (stores.Bad file at) → ⊥
+  pub others : j ≡ job.Run → (p : Program) (d : ℕ) → FindsStore old new p d stores.OtherProgram → ⊥
 
 -- Such a run ends with status 0, or with 9 for want of memory.
-abbrev pub Completes : Seen → Seen → Status → Type 0
-Completes old new s = IsUntroubled old new → (s ≡ status.Done) ⊎ (s ≡ status.Memory)
+abbrev pub Completes : Job → Seen → Seen → Status → Type 0
+Completes j old new s = IsUntroubled j old new → (s ≡ status.Done) ⊎ (s ≡ status.Memory)

@@ -235,7 +235,7 @@ pub fn session<O: Outside>(alloc: Global, job: &Job, out: &mut O) -> Status
     ensures input { InputCause (O.seen out.old) (O.seen out.new) result }
     ensures output { OutputCause (O.seen out.old) (O.seen out.new) result }
     ensures too_long { TooLongCause (O.seen out.old) (O.seen out.new) result }
-    ensures complete { Completes (O.seen out.old) (O.seen out.new) result }
+    ensures complete { Completes job.now (O.seen out.old) (O.seen out.new) result }
     ensures failures { StopsAtFailures (O.seen out.old) (O.seen out.new) result }
 {
     match job {

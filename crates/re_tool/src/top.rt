@@ -37,7 +37,7 @@ pub fn tool<R: Threads + Wait + Sync, O: Outside + Send, G: Gate>(
     ensures input { InputCause (O.Outside.seen out.old) (O.Outside.seen out.new) result }
     ensures output { OutputCause (O.Outside.seen out.old) (O.Outside.seen out.new) result }
     ensures too_long { TooLongCause (O.Outside.seen out.old) (O.Outside.seen out.new) result }
-    ensures complete { (job : Job) → job_of (map string_bytes words.now) ≡ Some job → Completes (O.Outside.seen out.old) (O.Outside.seen out.new) result }
+    ensures complete { (job : Job) → job_of (map string_bytes words.now) ≡ Some job → Completes job (O.Outside.seen out.old) (O.Outside.seen out.new) result }
     ensures failures { StopsAtFailures (O.Outside.seen out.old) (O.Outside.seen out.new) result }
 {
     match read_words(alloc, words) {

@@ -33,6 +33,7 @@ returns-clause-opened g c =
       first = e.first;
       steps = e.steps;
       left = e.left;
+      number = e.number;
     })
 
 pub returns-clause-refused : goal.returns-clause-refused
@@ -56,4 +57,5 @@ returns-clause-refused g c = λ d fault is.
       first = e.first;
       steps = e.steps;
       left = e.left;
+      number = e.number;
     }))

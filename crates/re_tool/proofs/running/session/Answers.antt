@@ -26,10 +26,10 @@ pub returns-in-Check-clause-too_long : goal.returns-in-Check-clause-too_long
 returns-in-Check-clause-too_long g c = too_long_cause _ _ _ _ c.check.ensures
 
 pub returns-in-Run-clause-complete : goal.returns-in-Run-clause-complete
-returns-in-Run-clause-complete g c = completes _ _ _ _ c.run.ensures
+returns-in-Run-clause-complete g c = rw c.in-Run.is (completes _ _ _ _ c.run.ensures)
 
 pub returns-in-Check-clause-complete : goal.returns-in-Check-clause-complete
-returns-in-Check-clause-complete g c = completes _ _ _ _ c.check.ensures
+returns-in-Check-clause-complete g c = rw c.in-Check.is (completes _ _ _ _ c.check.ensures)
 
 pub returns-in-Run-clause-failures : goal.returns-in-Run-clause-failures
 returns-in-Run-clause-failures g c = run_stops _ _ _ _ c.run.ensures
