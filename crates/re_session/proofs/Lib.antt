@@ -3,6 +3,7 @@ pub mod Acting
 pub mod Agreeing
 pub mod Answering
 pub mod Codes
+pub mod Faring
 pub mod GoingOn
 pub mod Lasting
 pub mod LimitCodes
@@ -11,5 +12,6 @@ pub mod NeverMemory
 pub mod Plans
 pub mod Quiet
 pub mod Refusals
+pub mod Restarts
 pub mod Stopping
 pub mod VarWords

@@ -1,6 +1,7 @@
 pub mod Acts
 pub mod Agreement
 pub mod Begins
+pub mod Fares
 pub mod Histories
 pub mod LineAnswers
 pub mod Serving
