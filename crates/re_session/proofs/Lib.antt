@@ -1,6 +1,7 @@
 pub mod Acting
 pub mod Answering
 pub mod Codes
+pub mod CommandCodes
 pub mod GoingOn
 pub mod Lasting
 pub mod LimitCodes

@@ -1,7 +1,9 @@
--- The words of vars by the entries that set them, and the commands that make entries.
+-- The words of vars by the entries that set them, the commands that make entries, and what commands need.
 -- Read against: on `device a; var x: int = 1;` after the entries x = 5, and one that sets nothing, x was set last to 5.
-use Rattle.std.specs.Prelude.{ℕ, ◌≡◌, ◌⊎◌, List, [], ◌∷◌, Option, Some, Ok, unwrap_or}
+-- Behind one packet, `hex 1` lacks its packet and `hex 0` doesn't; a stopped device that is up refuses `get`, and neither `crash` nor `restart` for being stopped.
+use Rattle.std.specs.Prelude.{ℕ, ◌≡◌, ◌≤◌, false, List, [], ◌∷◌, Option, Some, None, Ok, length, unwrap_or}
 use Rattle.re_session.specs.LineAnswers.{Reading}
+use Rattle.re_terms.specs.DeviceWorlds.{World}
 use Rattle.re_terms.specs.Entries.{PlainEntry, sets_of}
 use Rattle.re_terms.specs.Propagation.{put_word}
 use Rattle.re_terms.specs.declared.command.Command.{Command}
@@ -25,3 +27,42 @@ pub record IsEntry (l : Reading) : Type 0 where
   pub asked : Command
   pub is : l ≡ Ok (Some asked)
   pub makes : MakesEntry asked
+
+-- the line is a command, of which this is so
+abbrev pub Asks : Reading → (Command → Type 0) → Type 0
+Asks l IsSo = (c : Command) × (l ≡ Ok (Some c)) × IsSo c
+
+-- the number of the packet that a command needs
+abbrev pub packet_of : Command → Option ℕ
+packet_of (command.Deliver k d) = Some k
+packet_of (command.Hex k) = Some k
+packet_of c = None
+
+-- the device that has to be up for a command
+abbrev pub needed_up : Command → Option ℕ
+needed_up (command.Turn d t) = Some d
+needed_up (command.Lazy d t) = Some d
+needed_up (command.Settle d) = Some d
+needed_up (command.Get d id) = Some d
+needed_up (command.Send d) = Some d
+needed_up (command.Deliver k d) = Some d
+needed_up (command.Hex k) = None
+needed_up (command.Crash d) = Some d
+needed_up (command.Restart d) = None
+
+-- the device that has to run for a command: one that is stopped goes down and up all the same
+abbrev pub needed_running : Command → Option ℕ
+needed_running (command.Crash d) = None
+needed_running c = needed_up c
+
+-- the command's packet isn't there
+abbrev pub LacksPacket : World → Command → Type 0
+LacksPacket w c = (k : ℕ) × (packet_of c ≡ Some k) × (length w.packets ≤ k)
+
+-- the device that has to be up is down
+abbrev pub LacksDevice : World → Command → Type 0
+LacksDevice w c = (d : ℕ) × (needed_up c ≡ Some d) × (w.up d ≡ false)
+
+-- the device that has to run is stopped since this call
+abbrev pub IsStoppedFor : World → ℕ → Command → Type 0
+IsStoppedFor w call c = (d : ℕ) × (needed_running c ≡ Some d) × (w.stop d ≡ Some call)

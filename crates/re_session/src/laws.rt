@@ -1,16 +1,16 @@
 //! What follows from the definitions of the answers, for every program and every session.
-ghost use Rattle.std.specs.Prelude.{◌≡◌, ℕ, List, Option, [], ◌∷◌, ◌++◌, ◌≢◌, ◌↔◌, ◌≤◌, map, true, false, slice_get, slice_index_or, Ok, Err, Some, None};
+ghost use Rattle.std.specs.Prelude.{◌≡◌, ℕ, Bool, List, length, Option, [], ◌∷◌, ◌++◌, ◌≢◌, ◌↔◌, ◌≤◌, map, true, false, slice_get, slice_index_or, Ok, Err, Some, None};
 ghost use Rattle.re_commands.specs.Commanding.{commanded};
 ghost use Rattle.re_outside.specs.Moment.{Throughout};
 ghost use Rattle.re_outside.specs.Outside.{Seen};
 ghost use Rattle.re_outside.specs.Port.{past_in};
 ghost use Rattle.re_print.specs.Canonical.{word_text};
 ghost use Rattle.re_session.specs.Acts.{Acts, DoneLine, said_by};
-ghost use Rattle.re_session.specs.Histories.{IsEntry, last_set};
+ghost use Rattle.re_session.specs.Histories.{Asks, IsEntry, IsStoppedFor, LacksDevice, LacksPacket, last_set, needed_running};
 ghost use Rattle.re_session.specs.LineAnswers.{fault_code, line_answer, line_text, lines_after, texts};
 ghost use Rattle.re_session.specs.Stops.{GoesOn, Stops};
 ghost use Rattle.re_terms.specs.Cells.{cell_place};
-ghost use Rattle.re_terms.specs.DeviceWorlds.{World, Outcome, Fine, Memory, device_state, taken, takes_no_more};
+ghost use Rattle.re_terms.specs.DeviceWorlds.{World, Outcome, Fine, Memory, Failed, BadStore, OtherProgram, calls_files, device_state, reads_store, refusal, taken, takes_no_more};
 ghost use Rattle.re_terms.specs.Lines.{Done};
 ghost use Rattle.re_terms.specs.Limits.{OperationFault, updates_fault};
 ghost use Rattle.re_terms.specs.Meaning.{meaning};
@@ -18,7 +18,7 @@ ghost use Rattle.re_terms.specs.Programs.{IsProgram};
 ghost use Rattle.re_terms.specs.Runs.{plain_view};
 ghost use Rattle.re_terms.specs.Shapes.{shape_of};
 ghost use Rattle.re_terms.specs.SignalWords.{names_environment, no_word, signal_word};
-ghost use Rattle.re_terms.specs.Worlds.{Refused, limit_code};
+ghost use Rattle.re_terms.specs.Worlds.{Refused, StoppedAt, BadFile, limit_code};
 ghost use Rattle.re_terms.specs.declared.entry.Admitted.{Admitted};
 ghost use Rattle.re_terms.specs.declared.expr.Expr.{Expr};
 ghost use Rattle.re_terms.specs.declared.program.Decl.{Decl};
@@ -98,4 +98,38 @@ pub fn limit_law()
         ↔ ((w.up device ≡ true) × (w.stop device ≡ None) × (takes_no_more w device ≡ false) × (updates_fault (shape_of p) device turn.turn.ops.items (taken w device) ≡ Some f)) }
     ensures only { (p : Program) (w : World) (line : List ℕ) (o : Outcome) (code : ℕ) → 29 ≤ code → code ≤ 32 →
         line_answer p w (commanded p line) o ≡ Some (Refused code) → IsEntry (commanded p line) }
+{}
+
+/// The codes of commands that rest on packets and devices are said of lines for which memory was there, the first that comes of these:
+/// 28 exactly where the packet isn't there; 26 where the device that has to be up is down, and 27 where the one to restart is up; `no 34 at m`
+/// where the device that has to run is stopped since its call m; 35 of a send where all packets are made, and 38 of an unsettled turn of a
+/// device that takes more and has as many unsettled entries as it may have. 33, 37 and 39 come of commands that none of the refusals
+/// hinders, and exactly where a file call failed, or a restart found a bad store or another program's. No crash, restart or hex is
+/// answered `no 34`.
+pub fn code_law()
+    ensures packet { (p : Program) (w : World) (line : List ℕ) (o : Outcome) →
+        (line_answer p w (commanded p line) o ≡ Some (Refused 28)) ↔ ((o ≢ Memory) × Asks (commanded p line) (LacksPacket w)) }
+    ensures down { (p : Program) (w : World) (line : List ℕ) (o : Outcome) →
+        (line_answer p w (commanded p line) o ≡ Some (Refused 26)) ↔ ((o ≢ Memory) × Asks (commanded p line) (λ c. (LacksPacket w c → ⊥) × LacksDevice w c)) }
+    ensures up { (p : Program) (w : World) (line : List ℕ) (o : Outcome) →
+        (line_answer p w (commanded p line) o ≡ Some (Refused 27)) ↔ ((o ≢ Memory) × (device : ℕ) × (commanded p line ≡ Ok (Some (Command.Restart device))) × (w.up device ≡ true)) }
+    ensures stopped { (p : Program) (w : World) (line : List ℕ) (o : Outcome) (call : ℕ) →
+        (line_answer p w (commanded p line) o ≡ Some (StoppedAt call)) ↔ ((o ≢ Memory) × Asks (commanded p line) (λ c. (LacksPacket w c → ⊥) × (LacksDevice w c → ⊥) × IsStoppedFor w call c)) }
+    ensures never_stopped { (p : Program) (w : World) (line : List ℕ) (o : Outcome) (c : Command) (call : ℕ) → commanded p line ≡ Ok (Some c) → needed_running c ≡ None →
+        line_answer p w (commanded p line) o ≢ Some (StoppedAt call) }
+    ensures packets { (p : Program) (w : World) (line : List ℕ) (o : Outcome) →
+        (line_answer p w (commanded p line) o ≡ Some (Refused 35))
+        ↔ ((o ≢ Memory) × (device : ℕ) × (commanded p line ≡ Ok (Some (Command.Send device))) × (w.up device ≡ true) × (w.stop device ≡ None) × (10000 ≤ length w.packets)) }
+    ensures unsettled { (p : Program) (w : World) (line : List ℕ) (o : Outcome) →
+        (line_answer p w (commanded p line) o ≡ Some (Refused 38))
+        ↔ ((o ≢ Memory) × (device : ℕ) × (turn : Admitted) × (commanded p line ≡ Ok (Some (Command.Lazy device turn))) × (w.up device ≡ true) × (w.stop device ≡ None) × (takes_no_more w device ≡ false) × (8 ≤ length (w.unsettled device))) }
+    ensures failed { (p : Program) (w : World) (line : List ℕ) (o : Outcome) →
+        (line_answer p w (commanded p line) o ≡ Some (Refused 33))
+        ↔ Asks (commanded p line) (λ c. (refusal p w c ≡ None) × (calls_files w c ≡ true) × (at : ℕ) × (gate_open : Bool) × (o ≡ Failed at gate_open)) }
+    ensures bad { (p : Program) (w : World) (line : List ℕ) (o : Outcome) (file place : ℕ) →
+        (line_answer p w (commanded p line) o ≡ Some (BadFile file place))
+        ↔ Asks (commanded p line) (λ c. (refusal p w c ≡ None) × (reads_store c ≡ true) × (o ≡ BadStore file place)) }
+    ensures other { (p : Program) (w : World) (line : List ℕ) (o : Outcome) →
+        (line_answer p w (commanded p line) o ≡ Some (Refused 39))
+        ↔ Asks (commanded p line) (λ c. (refusal p w c ≡ None) × (reads_store c ≡ true) × (o ≡ OtherProgram)) }
 {}
