@@ -10,5 +10,6 @@ pub mod NeverMemory
 pub mod Plans
 pub mod Quiet
 pub mod Refusals
+pub mod Settlings
 pub mod Stopping
 pub mod VarWords

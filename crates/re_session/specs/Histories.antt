@@ -1,11 +1,13 @@
--- The words of vars by the entries that set them, the commands that make entries, and what commands need.
+-- The words of vars by the entries that set them, the commands that make entries, what commands need, and which lines settle entries.
 -- Read against: on `device a; var x: int = 1;` after the entries x = 5, and one that sets nothing, x was set last to 5.
+-- A turn that is answered `ok 1` settles entries of its device, and one that is refused settles none.
 -- Behind one packet, `hex 1` lacks its packet and `hex 0` doesn't; a stopped device that is up refuses `get`, and neither `crash` nor `restart` for being stopped.
 use Rattle.std.specs.Prelude.{ℕ, ◌≡◌, ◌≤◌, false, List, [], ◌∷◌, Option, Some, None, Ok, length, unwrap_or}
 use Rattle.re_session.specs.LineAnswers.{Reading}
 use Rattle.re_terms.specs.DeviceWorlds.{World}
 use Rattle.re_terms.specs.Entries.{PlainEntry, sets_of}
 use Rattle.re_terms.specs.Propagation.{put_word}
+use Rattle.re_terms.specs.Worlds.{PlainAnswer, Entered, Settled, Up}
 use Rattle.re_terms.specs.declared.command.Command.{Command}
 use Rattle.re_terms.specs.declared.command.Command.TheVariants as command
 use Rattle.re_terms.specs.declared.word.Word.{Word}
@@ -66,3 +68,11 @@ LacksDevice w c = (d : ℕ) × (needed_up c ≡ Some d) × (w.up d ≡ false)
 -- the device that has to run is stopped since this call
 abbrev pub IsStoppedFor : World → ℕ → Command → Type 0
 IsStoppedFor w call c = (d : ℕ) × (needed_running c ≡ Some d) × (w.stop d ≡ Some call)
+
+-- the device of which a line with this answer settles entries: one of a turn or a delivery that is entered, of a settling, and of a restart
+abbrev pub settler_of : Reading → Option PlainAnswer → Option ℕ
+settler_of (Ok (Some (command.Turn d t))) (Some (Entered n)) = Some d
+settler_of (Ok (Some (command.Deliver k d))) (Some (Entered n)) = Some d
+settler_of (Ok (Some (command.Settle d))) (Some (Settled n)) = Some d
+settler_of (Ok (Some (command.Restart d))) (Some (Up n)) = Some d
+settler_of l answer = None

@@ -6,19 +6,22 @@ ghost use Rattle.re_outside.specs.Outside.{Seen};
 ghost use Rattle.re_outside.specs.Port.{past_in};
 ghost use Rattle.re_print.specs.Canonical.{word_text};
 ghost use Rattle.re_session.specs.Acts.{Acts, DoneLine, said_by};
-ghost use Rattle.re_session.specs.Histories.{Asks, IsEntry, IsStoppedFor, LacksDevice, LacksPacket, last_set, needed_running};
-ghost use Rattle.re_session.specs.LineAnswers.{fault_code, line_answer, line_text, lines_after, texts};
+ghost use Rattle.re_session.specs.Histories.{Asks, IsEntry, IsStoppedFor, LacksDevice, LacksPacket, last_set, needed_running, settler_of};
+ghost use Rattle.re_session.specs.LineAnswers.{fault_code, line_after, line_answer, line_text, lines_after, texts};
 ghost use Rattle.re_session.specs.Stops.{GoesOn, Stops};
 ghost use Rattle.re_terms.specs.Cells.{cell_place};
-ghost use Rattle.re_terms.specs.DeviceWorlds.{World, Outcome, Fine, Memory, Failed, BadStore, OtherProgram, calls_files, device_state, reads_store, refusal, taken, takes_no_more};
-ghost use Rattle.re_terms.specs.Lines.{Done};
+ghost use Rattle.re_terms.specs.DeviceWorlds.{World, Outcome, Fine, Memory, Failed, BadStore, OtherProgram, calls_files, device_of, device_state, reads_store, recovered, refusal, settled_number, taken, takes_no_more};
+ghost use Rattle.re_terms.specs.Entries.{Merge, turn_entry};
+ghost use Rattle.re_terms.specs.Lines.{Done, number_told};
 ghost use Rattle.re_terms.specs.Limits.{OperationFault, updates_fault};
 ghost use Rattle.re_terms.specs.Meaning.{meaning};
 ghost use Rattle.re_terms.specs.Programs.{IsProgram};
 ghost use Rattle.re_terms.specs.Runs.{plain_view};
 ghost use Rattle.re_terms.specs.Shapes.{shape_of};
 ghost use Rattle.re_terms.specs.SignalWords.{names_environment, no_word, signal_word};
-ghost use Rattle.re_terms.specs.Worlds.{Refused, StoppedAt, BadFile, limit_code};
+ghost use Rattle.re_terms.specs.Untouched.{HasSettled};
+ghost use Rattle.re_terms.specs.Updates.{Update};
+ghost use Rattle.re_terms.specs.Worlds.{PlainAnswer, Entered, Settled, Up, Refused, StoppedAt, BadFile, limit_code};
 ghost use Rattle.re_terms.specs.declared.entry.Admitted.{Admitted};
 ghost use Rattle.re_terms.specs.declared.expr.Expr.{Expr};
 ghost use Rattle.re_terms.specs.declared.program.Decl.{Decl};
@@ -132,4 +135,28 @@ pub fn code_law()
     ensures other { (p : Program) (w : World) (line : List ℕ) (o : Outcome) →
         (line_answer p w (commanded p line) o ≡ Some (Refused 39))
         ↔ Asks (commanded p line) (λ c. (refusal p w c ≡ None) × (reads_store c ≡ true) × (o ≡ OtherProgram)) }
+{}
+
+/// What is settled of a device grows by lines so, and in no other way: a turn or a delivery that is answered `ok N` settles the unsettled
+/// entries and behind them its own, a settling the unsettled ones, and a restart those in doubt that read as there. The number N of
+/// `ok N`, `settled N` and `up N` is that of the last settled entry.
+pub fn settled_law()
+    ensures turn { (p : Program) (w : World) (line : List ℕ) (o : Outcome) (device : ℕ) (turn : Admitted) (n : ℕ) →
+        commanded p line ≡ Ok (Some (Command.Turn device turn)) → line_answer p w (commanded p line) o ≡ Some (Entered n) →
+        HasSettled device (w.unsettled device ++ turn_entry turn ∷ []) w (line_after p w (commanded p line) o) }
+    ensures deliver { (p : Program) (w : World) (line : List ℕ) (o : Outcome) (device k n : ℕ) →
+        commanded p line ≡ Ok (Some (Command.Deliver k device)) → line_answer p w (commanded p line) o ≡ Some (Entered n) →
+        (packet : List Update) × (slice_get w.packets k ≡ Some packet) × HasSettled device (w.unsettled device ++ Merge packet ∷ []) w (line_after p w (commanded p line) o) }
+    ensures settle { (p : Program) (w : World) (line : List ℕ) (o : Outcome) (device n : ℕ) →
+        commanded p line ≡ Ok (Some (Command.Settle device)) → line_answer p w (commanded p line) o ≡ Some (Settled n) →
+        HasSettled device (w.unsettled device) w (line_after p w (commanded p line) o) }
+    ensures restart { (p : Program) (w : World) (line : List ℕ) (o : Outcome) (device n : ℕ) →
+        commanded p line ≡ Ok (Some (Command.Restart device)) → line_answer p w (commanded p line) o ≡ Some (Up n) →
+        HasSettled device (recovered w device) w (line_after p w (commanded p line) o) }
+    ensures number { (p : Program) (w : World) (line : List ℕ) (o : Outcome) (c : Command) (device : ℕ) (answer : PlainAnswer) (n : ℕ) →
+        commanded p line ≡ Ok (Some c) → device_of c ≡ Some device → line_answer p w (commanded p line) o ≡ Some answer → number_told answer ≡ Some n →
+        settled_number (line_after p w (commanded p line) o) device ≡ n }
+    ensures others { (p : Program) (w : World) (line : List ℕ) (o : Outcome) (device : ℕ) →
+        settler_of (commanded p line) (line_answer p w (commanded p line) o) ≢ Some device →
+        (line_after p w (commanded p line) o).settled device ≡ w.settled device }
 {}
