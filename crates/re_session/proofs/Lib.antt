@@ -1,4 +1,5 @@
 pub mod Acting
+pub mod Agreements
 pub mod Answering
 pub mod Codes
 pub mod CommandCodes

@@ -1,12 +1,13 @@
--- The words of vars by the entries that set them, the commands that make entries, what commands need, and which lines settle entries.
+-- The words of vars by the entries that set them, the commands that make entries, what commands need, which lines settle entries, and devices that have taken in the same updates.
 -- Read against: on `device a; var x: int = 1;` after the entries x = 5, and one that sets nothing, x was set last to 5.
 -- A turn that is answered `ok 1` settles entries of its device, and one that is refused settles none.
 -- Behind one packet, `hex 1` lacks its packet and `hex 0` doesn't; a stopped device that is up refuses `get`, and neither `crash` nor `restart` for being stopped.
-use Rattle.std.specs.Prelude.{ℕ, ◌≡◌, ◌≤◌, false, List, [], ◌∷◌, Option, Some, None, Ok, length, unwrap_or}
+use Rattle.std.specs.Prelude.{ℕ, ◌≡◌, ◌≤◌, true, false, List, [], ◌∷◌, Option, Some, None, Ok, length, unwrap_or}
 use Rattle.re_session.specs.LineAnswers.{Reading}
-use Rattle.re_terms.specs.DeviceWorlds.{World}
+use Rattle.re_terms.specs.DeviceWorlds.{World, taken}
 use Rattle.re_terms.specs.Entries.{PlainEntry, sets_of}
 use Rattle.re_terms.specs.Propagation.{put_word}
+use Rattle.re_terms.specs.Updates.{Update, IsIn}
 use Rattle.re_terms.specs.Worlds.{PlainAnswer, Entered, Settled, Up}
 use Rattle.re_terms.specs.declared.command.Command.{Command}
 use Rattle.re_terms.specs.declared.command.Command.TheVariants as command
@@ -76,3 +77,12 @@ settler_of (Ok (Some (command.Deliver k d))) (Some (Entered n)) = Some d
 settler_of (Ok (Some (command.Settle d))) (Some (Settled n)) = Some d
 settler_of (Ok (Some (command.Restart d))) (Some (Up n)) = Some d
 settler_of l answer = None
+
+-- two devices are up, none of them is stopped, and both have taken in the same updates
+pub record HaveSame (w : World) (a b : ℕ) : Type 0 where
+  pub up : w.up a ≡ true
+  pub other_up : w.up b ≡ true
+  pub runs : w.stop a ≡ None
+  pub other_runs : w.stop b ≡ None
+  pub to : (u : Update) → IsIn u (taken w a) → IsIn u (taken w b)
+  pub back : (u : Update) → IsIn u (taken w b) → IsIn u (taken w a)

@@ -1,15 +1,20 @@
 //! What follows from the definitions of the answers, for every program and every session.
 ghost use Rattle.std.specs.Prelude.{◌≡◌, ℕ, Bool, List, length, Option, [], ◌∷◌, ◌++◌, ◌≢◌, ◌↔◌, ◌≤◌, map, true, false, slice_get, slice_index_or, Ok, Err, Some, None};
+ghost use Rattle.std.specs.List.{All};
 ghost use Rattle.re_commands.specs.Commanding.{commanded};
 ghost use Rattle.re_outside.specs.Moment.{Throughout};
 ghost use Rattle.re_outside.specs.Outside.{Seen};
 ghost use Rattle.re_outside.specs.Port.{past_in};
 ghost use Rattle.re_print.specs.Canonical.{word_text};
+ghost use Rattle.re_prop.specs.Touched.{is_replicated_at};
 ghost use Rattle.re_session.specs.Acts.{Acts, DoneLine, said_by};
-ghost use Rattle.re_session.specs.Histories.{Asks, IsEntry, IsStoppedFor, LacksDevice, LacksPacket, last_set, needed_running, settler_of};
+ghost use Rattle.re_session.specs.Histories.{Asks, HaveSame, IsEntry, IsStoppedFor, LacksDevice, LacksPacket, last_set, needed_running, settler_of};
 ghost use Rattle.re_session.specs.LineAnswers.{fault_code, line_after, line_answer, line_text, lines_after, texts};
 ghost use Rattle.re_session.specs.Stops.{GoesOn, Stops};
+ghost use Rattle.re_terms.specs.Admission.{device_count};
+ghost use Rattle.re_terms.specs.CausalWorlds.{IsCausalWorld};
 ghost use Rattle.re_terms.specs.Cells.{cell_place};
+ghost use Rattle.re_terms.specs.Dependencies.{graph_of, support};
 ghost use Rattle.re_terms.specs.DeviceWorlds.{World, Outcome, Fine, Memory, Failed, BadStore, OtherProgram, calls_files, device_of, device_state, reads_store, recovered, refusal, settled_number, taken, takes_no_more};
 ghost use Rattle.re_terms.specs.Entries.{Merge, turn_entry};
 ghost use Rattle.re_terms.specs.Lines.{Done, number_told};
@@ -159,4 +164,18 @@ pub fn settled_law()
     ensures others { (p : Program) (w : World) (line : List ℕ) (o : Outcome) (device : ℕ) →
         settler_of (commanded p line) (line_answer p w (commanded p line) o) ≢ Some device →
         (line_after p w (commanded p line) o).settled device ≡ w.settled device }
+{}
+
+/// Two devices that are up and not stopped and that have taken in the same updates, in whatever order, say the same of a replicated cell,
+/// and of a signal whose support holds replicated cells alone.
+pub fn agree_law()
+    ensures cell { (p : Program) (w : World) (line other : List ℕ) (a b id : ℕ) → IsCausalWorld (device_count p.decls.items) w → HaveSame w a b →
+        commanded p line ≡ Ok (Some (Command.Get a id)) → commanded p other ≡ Ok (Some (Command.Get b id)) →
+        is_replicated_at p.decls.items id ≡ true →
+        line_text p w (commanded p line) Fine ≡ line_text p w (commanded p other) Fine }
+    ensures signal { (p : Program) (w : World) (line other : List ℕ) (a b id : ℕ) (d : Decl) (kind : Kind) (expr : Expr) → IsProgram p → IsCausalWorld (device_count p.decls.items) w → HaveSame w a b →
+        commanded p line ≡ Ok (Some (Command.Get a id)) → commanded p other ≡ Ok (Some (Command.Get b id)) →
+        slice_get p.decls.items id ≡ Some d → d.body ≡ Body.Signal kind expr →
+        All (λ cell. is_replicated_at p.decls.items cell ≡ true) (support (graph_of p.decls.items) id) →
+        line_text p w (commanded p line) Fine ≡ line_text p w (commanded p other) Fine }
 {}
