@@ -1,6 +1,6 @@
 -- How the lines of a session fare over files that stand for a world.
 use Rattle.std.proofs.Common.{◌≡◌, ◌-◌, ◌++◌, ◌<◌, ◌≤◌, ◌^◌, [], ◌∷◌, ℕ, List, None, Ok, Option, Some, ap, arith, min, refl, subst, sym, true, ◌∙◌}
-use Rattle.std.proofs.lemmas.List.Elements.{All-cons}
+use Rattle.std.proofs.lemmas.List.Elements.{All-cons, All-nil}
 use Rattle.re_commands.specs.Commanding.{commanded}
 use Rattle.re_outside.specs.Outside.{Counts, Disk, DoesWith, FaultKind, Faults, Rose, Seen, content_in, none}
 use Rattle.re_record.proofs.OneStore.{one_stored}
@@ -52,7 +52,7 @@ quiet_in a b c d first last quiet kind rose = quiet kind (rose_in (a.faults kind
 last_on : (a b c : Seen) → AllLast a b → AllLast b c → AllLast a c
 last_on a b c f g kind = let x = f kind in let y = g kind in omega (arith, x, y)
 
-stays : (a : Seen) → AllLast a a
+pub stays : (a : Seen) → AllLast a a
 stays a kind = omega arith
 
 -- ---- one line
@@ -84,6 +84,9 @@ module _ (p : Program) (is_program : IsProgram p) (w : World) (v v' : WorldState
   line_fares line answer o (asks {c = c} {x = x} meant a asked) = let stepped = asked.does.stepped told in fares_as stepped.outcome o (sym (asked.fared told)) (shown c stepped.outcome (λ d same. restarts_below p line d (meant ∙ ap (λ k. Ok (Some k)) same)) stepped.shows)
 
 -- ---- many lines
+
+pub fares_none : (a b : Seen) → Fares [] a b
+fares_none a b = record { stores = All-nil (λ (x : DoneLine). FindsStore x.outcome); calm = λ q. All-nil (λ (x : DoneLine). IsCalm x.outcome) }
 
 does_last : (a b : Seen) (read text : List ℕ) (f : Faults) (P : List Step → Type 0) → DoesWith P a b read text f → AllLast a b
 does_last a b read text f P d kind = lasts (f kind) (a.faults kind) (b.faults kind) (d.moves.counts kind)

@@ -1,8 +1,9 @@
 pub mod Acknowledged
 pub mod Acting
-pub mod Agreeing
+pub mod Agreements
 pub mod Answering
 pub mod Codes
+pub mod CommandCodes
 pub mod Faring
 pub mod GoingOn
 pub mod Lasting
@@ -13,5 +14,6 @@ pub mod Plans
 pub mod Quiet
 pub mod Refusals
 pub mod Restarts
+pub mod Settlings
 pub mod Stopping
 pub mod VarWords

@@ -1,5 +1,4 @@
 pub mod Acts
-pub mod Agreement
 pub mod Begins
 pub mod Fares
 pub mod Histories

@@ -1,15 +1,9 @@
-use Rattle.std.proofs.Common.{◌++◌, ◌∷◌, [], ap, sym, ◌∙◌}
-use Rattle.re_print.specs.AnswerTexts.{answer_text}
-use Rattle.re_session.proofs.Agreeing.{shown_same}
-use Rattle.re_session.proofs.VarWords.{got_text}
+use Rattle.re_commands.specs.Commanding.{commanded}
+use Rattle.re_session.proofs.Agreements.{cells_agree, signals_agree}
 use Rattle.re_session.proofs.laws.agree_law.Goals as goal
-use Rattle.re_session.specs.LineAnswers.{line_text}
-use Rattle.re_terms.specs.DeviceWorlds.{Fine, device_state}
 
-pub returns : goal.returns
-returns c = λ p w line other d e id log among is_program get get_too up stop up_too stop_too causal same within are ours.
-    ap (λ l. line_text p w l Fine) get
-    ∙ got_text p w d id up stop
-    ∙ ap (λ a. answer_text p a ++ 10 ∷ []) (shown_same p is_program (device_state p w d) (device_state p w e) log causal same within among are id ours)
-    ∙ sym (got_text p w e id up_too stop_too)
-    ∙ sym (ap (λ l. line_text p w l Fine) get_too)
+pub returns-clause-cell : goal.returns-clause-cell
+returns-clause-cell c = λ p w line other a b id causal have get got kept. cells_agree p w a b causal have id (commanded p line) (commanded p other) get got kept
+
+pub returns-clause-signal : goal.returns-clause-signal
+returns-clause-signal c = λ p w line other a b id d kind expr is causal have get got at of each. signals_agree p w a b causal have id (commanded p line) (commanded p other) is get got each
