@@ -36,7 +36,7 @@ Lasts before now = min before (2 ^ 64 - 1) ≤ now
 abbrev pub AllLast : Seen → Seen → Type 0
 AllLast a b = (kind : FaultKind) → Lasts (a.faults kind) (b.faults kind)
 
-lasts : (n before now : ℕ) → Counts n before now → Lasts before now
+pub lasts : (n before now : ℕ) → Counts n before now → Lasts before now
 lasts n before now c = let k = c.1 in omega (arith, k)
 
 -- what rose in a part has risen in all
@@ -49,7 +49,7 @@ Quiet a b = (kind : FaultKind) → Rose (a.faults kind) (b.faults kind) → ⊥
 quiet_in : (a b c d : Seen) → AllLast a b → AllLast c d → Quiet a d → Quiet b c
 quiet_in a b c d first last quiet kind rose = quiet kind (rose_in (a.faults kind) (b.faults kind) (c.faults kind) (d.faults kind) (first kind) rose (last kind))
 
-last_on : (a b c : Seen) → AllLast a b → AllLast b c → AllLast a c
+pub last_on : (a b c : Seen) → AllLast a b → AllLast b c → AllLast a c
 last_on a b c f g kind = let x = f kind in let y = g kind in omega (arith, x, y)
 
 pub stays : (a : Seen) → AllLast a a
@@ -85,10 +85,20 @@ module _ (p : Program) (is_program : IsProgram p) (w : World) (v v' : WorldState
 
 -- ---- many lines
 
+-- the same over a longer part
+pub fares_within : (lines : List DoneLine) (a b c d : Seen) → AllLast a b → AllLast c d → Fares lines b c → Fares lines a d
+fares_within lines a b c d first last f = record { stores = f.stores; calm = λ q. f.calm (quiet_in a b c d first last q) }
+
+pub fares_one : (l : DoneLine) (a b : Seen) → FindsStore l.outcome → (Quiet a b → IsCalm l.outcome) → Fares (l ∷ []) a b
+fares_one l a b finds calm = record {
+  stores = All-cons (λ (x : DoneLine). FindsStore x.outcome) l [] finds (All-nil (λ (x : DoneLine). FindsStore x.outcome));
+  calm = λ q. All-cons (λ (x : DoneLine). IsCalm x.outcome) l [] (calm q) (All-nil (λ (x : DoneLine). IsCalm x.outcome));
+}
+
 pub fares_none : (a b : Seen) → Fares [] a b
 fares_none a b = record { stores = All-nil (λ (x : DoneLine). FindsStore x.outcome); calm = λ q. All-nil (λ (x : DoneLine). IsCalm x.outcome) }
 
-does_last : (a b : Seen) (read text : List ℕ) (f : Faults) (P : List Step → Type 0) → DoesWith P a b read text f → AllLast a b
+pub does_last : (a b : Seen) (read text : List ℕ) (f : Faults) (P : List Step → Type 0) → DoesWith P a b read text f → AllLast a b
 does_last a b read text f P d kind = lasts (f kind) (a.faults kind) (b.faults kind) (d.moves.counts kind)
 
 module _ (p : Program) (is_program : IsProgram p) where

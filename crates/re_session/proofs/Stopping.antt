@@ -21,6 +21,8 @@ use Rattle.re_session.proofs.Acknowledged.{holds_acknowledged}
 use Rattle.re_session.specs.Stops.{BeginsBehind, IsUnderWay, Stops, texts_of, world_of}
 use Rattle.re_terms.specs.declared.command.Answer.{Answer}
 use Rattle.re_terms.specs.declared.command.Command.{Command}
+use Rattle.re_terms.specs.Admission.{device_count}
+use Rattle.re_terms.specs.CausalWorlds.{IsCausalWorld}
 use Rattle.re_terms.specs.DeviceWorlds.{World}
 use Rattle.re_terms.specs.Lines.{Done}
 use Rattle.re_terms.specs.declared.program.Program.{Program}
@@ -94,8 +96,8 @@ throughout_outputs x y read text f told d = record {
 -- what a stop leaves where all else is known holds what was acknowledged
 stops_with : (p : Program) (w : World) (lines : List DoneLine) (base now : Past) (answered : ℕ) → answered ≤ length lines → (under_way : Option Done) → IsUnderWay p (slice_get lines answered) under_way
     → (text rest : List ℕ) → said now.trace ≡ said base.trace ++ text → texts_of p w (take answered lines) ≡ text ++ rest → ((first : ℕ) → first < answered → length (texts_of p w (take first lines)) ≤ length text) → BeginsBehind under_way rest
-    → ((files : ℕ → ℕ → List ℕ) → IsJointImage now files → Restores p (world_of p w (take answered lines)) under_way files) → Stops p w lines base now
-stops_with p w lines base now answered within under_way next text rest says front last begins restores = record {
+    → IsCausalWorld (device_count p.decls.items) (world_of p w (take answered lines)) → ((files : ℕ → ℕ → List ℕ) → IsJointImage now files → Restores p (world_of p w (take answered lines)) under_way files) → Stops p w lines base now
+stops_with p w lines base now answered within under_way next text rest says front last begins causal restores = record {
   answered = answered;
   within = within;
   under_way = under_way;
@@ -106,6 +108,7 @@ stops_with p w lines base now answered within under_way next text rest says fron
   front = front;
   all_but_last = last;
   begins = begins;
+  causal = causal;
   restores = restores;
   holds = λ files image. holds_acknowledged p w lines answered under_way text rest files (restores files image) front;
 }
@@ -115,16 +118,16 @@ begins_behind None = tt
 begins_behind (Some c) = refl
 
 -- before the first line is done
-pub stop_here : (p : Program) (w : World) (lines : List DoneLine) (base now : Past) (under_way : Option Done) → said now.trace ≡ said base.trace → IsUnderWay p (slice_get lines 0) under_way → ((files : ℕ → ℕ → List ℕ) → IsJointImage now files → Restores p w under_way files) → Stops p w lines base now
-stop_here p w lines base now under_way says next restores = stops_with p w lines base now 0 (omega arith) under_way next [] [] (says ∙ sym (append-nil (said base.trace))) refl (λ first less. absurd (omega (arith, less))) (begins_behind under_way) restores
+pub stop_here : (p : Program) (w : World) (lines : List DoneLine) (base now : Past) (under_way : Option Done) → said now.trace ≡ said base.trace → IsUnderWay p (slice_get lines 0) under_way → IsCausalWorld (device_count p.decls.items) w → ((files : ℕ → ℕ → List ℕ) → IsJointImage now files → Restores p w under_way files) → Stops p w lines base now
+stop_here p w lines base now under_way says next causal restores = stops_with p w lines base now 0 (omega arith) under_way next [] [] (says ∙ sym (append-nil (said base.trace))) refl (λ first less. absurd (omega (arith, less))) (begins_behind under_way) causal restores
 
 only_first : (p : Program) (w : World) (l : DoneLine) (lines : List DoneLine) (text : List ℕ) (first : ℕ) → first < 1 → length (texts_of p w (take first (l ∷ lines))) ≤ length text
 only_first p w l lines text zero less = omega arith
 only_first p w l lines text (suc n) less = absurd (omega (arith, less))
 
 -- behind the first line, within the saying of its answer
-stop_behind : (p : Program) (w : World) (l : DoneLine) (lines : List DoneLine) (base now : Past) (front tail : List ℕ) → said now.trace ≡ said base.trace ++ front → line_text p w (commanded p l.line) l.outcome ≡ front ++ tail → ((files : ℕ → ℕ → List ℕ) → IsJointImage now files → Restores p (line_after p w (commanded p l.line) l.outcome) None files) → Stops p w (l ∷ lines) base now
-stop_behind p w l lines base now front tail says whole restores = stops_with p w (l ∷ lines) base now 1 (omega arith) None tt front tail says (append-nil _ ∙ whole) (only_first p w l lines front) tt restores
+stop_behind : (p : Program) (w : World) (l : DoneLine) (lines : List DoneLine) (base now : Past) (front tail : List ℕ) → said now.trace ≡ said base.trace ++ front → line_text p w (commanded p l.line) l.outcome ≡ front ++ tail → IsCausalWorld (device_count p.decls.items) (line_after p w (commanded p l.line) l.outcome) → ((files : ℕ → ℕ → List ℕ) → IsJointImage now files → Restores p (line_after p w (commanded p l.line) l.outcome) None files) → Stops p w (l ∷ lines) base now
+stop_behind p w l lines base now front tail says whole causal restores = stops_with p w (l ∷ lines) base now 1 (omega arith) None tt front tail says (append-nil _ ∙ whole) (only_first p w l lines front) tt causal restores
 
 -- all but the last answer, behind one more
 one_more : (p : Program) (w : World) (l : DoneLine) (lines : List DoneLine) (answered : ℕ) (answer text : List ℕ) → line_text p w (commanded p l.line) l.outcome ≡ answer
@@ -146,13 +149,13 @@ stop_further p w l lines base mid now answer says is s =
     (s.says ∙ ap (λ x. x ++ s.text) says ∙ append_assoc (said base.trace) answer s.text)
     (ap (λ x. x ++ texts_of p (line_after p w (commanded p l.line) l.outcome) (take s.answered lines)) is ∙ ap (λ x. answer ++ x) s.front ∙ sym (append_assoc answer s.text s.rest))
     (one_more p w l lines s.answered answer s.text is s.all_but_last)
-    s.begins s.restores
+    s.begins s.causal s.restores
 
 -- ---- one line
 
 module _ (p : Program) (w : World) (l : DoneLine) (lines : List DoneLine) (v v' : WorldState) (a b : Seen) (base : Past) (told : a.told ≡ true) (before : said a.trace ≡ said base.trace) (is : IsWorldOf p w v a) (d : DoesLine p l.line v v' l.answer l.outcome a b) where
   stops_still : b ≡ a → Throughout (past_in 0 a) (past_in 0 b) (Stops p w (l ∷ lines) base)
-  stops_still same = no_step (past_in 0 a) (past_in 0 b) (Stops p w (l ∷ lines) base) (ap (past_in 0) same) (stop_here p w (l ∷ lines) base (past_in 0 a) None before tt (λ files images. rest_restores p w v a files is images))
+  stops_still same = no_step (past_in 0 a) (past_in 0 b) (Stops p w (l ∷ lines) base) (ap (past_in 0) same) (stop_here p w (l ∷ lines) base (past_in 0 a) None before tt is.causal (λ files images. rest_restores p w v a files is images))
 
   stops_asked : (c : Command) (x : Answer) → commanded p l.line ≡ Ok (Some c) → DoesAsked p c v v' x l.outcome a b → Throughout (past_in 0 a) (past_in 0 b) (Stops p w (l ∷ lines) base)
   stops_asked c x meant asked =
@@ -165,7 +168,7 @@ module _ (p : Program) (w : World) (l : DoneLine) (lines : List DoneLine) (v v' 
             let e = parts (past_in 0 a) now (past_in 0 b) does.steps (moved a b [] [] asked.goes.faults told does) on nn in
             let quiet : said on.0 ≡ [] = none_front (said on.0) (said nn.0) (sym does.says ∙ said_parts on.0 nn.0 does.steps e) in
             let says : said now.trace ≡ said base.trace = said_on (past_in 0 a) now on ∙ ap (λ t. said a.trace ++ t) quiet ∙ append-nil (said a.trace) ∙ before in
-            stop_here p w (l ∷ lines) base now (Some (record { asked = c; outcome = stepped.outcome })) says (meant, asked.fared told) (within.each now on nn);
+            stop_here p w (l ∷ lines) base now (Some (record { asked = c; outcome = stepped.outcome })) says (meant, asked.fared told) is.causal (within.each now on nn);
       }
 
   -- a stop within a line leaves the world before it, with its command under way or none
@@ -184,7 +187,7 @@ stops_reading p w lines v a b base read f told before is d =
     weaken (past_in 0 a) (past_in 0 b) (While a []) (Stops p w lines base)
     (λ now here.
     let quiet : here.front ≡ [] = none_front here.front here.tail here.whole in
-    stop_here p w lines base now None (here.says ∙ ap (λ t. said a.trace ++ t) quiet ∙ append-nil (said a.trace) ∙ before) tt (λ files images. rest_restores p w v a files is (images_were a [] now here files images)))
+    stop_here p w lines base now None (here.says ∙ ap (λ t. said a.trace ++ t) quiet ∙ append-nil (said a.trace) ∙ before) tt is.causal (λ files images. rest_restores p w v a files is (images_were a [] now here files images)))
     (throughout_outputs a b read [] f told d)
 
 -- ---- many lines
@@ -230,7 +233,7 @@ module _ (p : Program) (w : World) (l : DoneLine) (lines : List DoneLine) (v v' 
   saying : Throughout (past_in 0 act.done) (past_in 0 b) (Stops p w (l ∷ lines) (past_in 0 a))
   saying =
       weaken (past_in 0 act.done) (past_in 0 b) (While act.done (said_of p l.answer)) (Stops p w (l ∷ lines) (past_in 0 a))
-      (λ now here. stop_behind p w l lines (past_in 0 a) now here.front here.tail (here.says ∙ ap (λ t. t ++ here.front) said_done) (act_text ∙ here.whole) (λ files images. rest_restores p after v' act.done files led.1 (images_were act.done (said_of p l.answer) now here files images)))
+      (λ now here. stop_behind p w l lines (past_in 0 a) now here.front here.tail (here.says ∙ ap (λ t. t ++ here.front) said_done) (act_text ∙ here.whole) led.1.causal (λ files images. rest_restores p after v' act.done files led.1 (images_were act.done (said_of p l.answer) now here files images)))
       (throughout_outputs act.done b [] (said_of p l.answer) none act_done_told act.says)
 
   pub stops_act : Throughout (past_in 0 a) (past_in 0 b) (Stops p w (l ∷ lines) (past_in 0 a))

@@ -8,6 +8,7 @@ use Rattle.re_session.specs.Acts.{DoneLine}
 use Rattle.re_session.specs.Begins.{Begins}
 use Rattle.re_session.specs.LineAnswers.{lines_after, texts}
 use Rattle.re_terms.specs.Admission.{device_count}
+use Rattle.re_terms.specs.CausalWorlds.{IsCausalWorld}
 use Rattle.re_terms.specs.DeviceWorlds.{World, is_for, reply}
 use Rattle.re_terms.specs.Entries.{run_entries}
 use Rattle.re_terms.specs.Lines.{Done, further, number_told}
@@ -64,6 +65,8 @@ pub record Stops (p : Program) (w : World) (lines : List DoneLine) (base now : P
   pub front : texts_of p w (take answered lines) ≡ text ++ rest
   pub all_but_last : (first : ℕ) → first < answered → length (texts_of p w (take first lines)) ≤ length text
   pub begins : BeginsBehind under_way rest
+  -- the world's updates stand in one causal log, so that devices which took in the same ones agree
+  pub causal : IsCausalWorld (device_count p.decls.items) (world_of p w (take answered lines))
   pub restores : (files : ℕ → ℕ → List ℕ) → IsJointImage now files → Restores p (world_of p w (take answered lines)) under_way files
   pub holds : (files : ℕ → ℕ → List ℕ) (image : IsJointImage now files) → HoldsAcknowledged p w lines text (world_of p w (take answered lines)) under_way files (restores files image)
 

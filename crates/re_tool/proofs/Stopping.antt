@@ -10,7 +10,9 @@ use Rattle.re_outside.specs.Outside.{Does, Faults, Seen, none, said}
 use Rattle.re_outside.specs.Port.{past_in}
 use Rattle.re_outside.specs.Trace.{IsJointImage, Past}
 use Rattle.re_session.proofs.Acting.{acts_world, after-append, line_goes, line_world}
+use Rattle.re_session.proofs.Faring.{AllLast, acts_fare, does_last, fares_none, fares_one, fares_within, last_on, lasts, line_fares, stays}
 use Rattle.re_session.proofs.Lasting.{acts_told, begins_on, world_on}
+use Rattle.re_session.specs.Fares.{Fares}
 use Rattle.re_session.proofs.Stopping.{While, images_were, moved, none_front, parts, rest_restores, said_on, said_parts, stop_here, stops_acts, stops_line, stops_reading, throughout_outputs}
 use Rattle.re_session.specs.Acts.{DoneLine}
 use Rattle.re_session.specs.Begins.{Begins}
@@ -118,7 +120,7 @@ world_more p w lines more =
 
 -- the line that has no whole answer
 last_stops : (p : Program) (u : World) (lines : List DoneLine) (v v' : WorldState) (a b : Seen) (base : Past) → a.told ≡ true → said a.trace ≡ said base.trace → IsWorldOf p u v a → DoesLast p lines v v' a b → Throughout (past_in 0 a) (past_in 0 b) (Stops p u lines base)
-last_stops p u [] v v' a b base told says is d = no_step (past_in 0 a) (past_in 0 b) (Stops p u [] base) (ap (past_in 0) d.1) (stop_here p u [] base (past_in 0 a) None says tt (λ files images. rest_restores p u v a files is images))
+last_stops p u [] v v' a b base told says is d = no_step (past_in 0 a) (past_in 0 b) (Stops p u [] base) (ap (past_in 0) d.1) (stop_here p u [] base (past_in 0 a) None says tt is.causal (λ files images. rest_restores p u v a files is images))
 last_stops p u (l ∷ []) v v' a b base told says is d = stops_line p u l [] v v' a b base told says is d
 last_stops p u (l ∷ m ∷ lines) v v' a b base told says is d = absurd d
 
@@ -140,6 +142,7 @@ rebased p w lines base earlier now same s = record {
   front = s.front;
   all_but_last = s.all_but_last;
   begins = s.begins;
+  causal = s.causal;
   restores = s.restores;
   holds = s.holds;
 }
@@ -147,6 +150,7 @@ rebased p w lines base earlier now same s = record {
 -- a world at rest behind all lines
 leaves_all : (p : Program) (w : World) (lines : List DoneLine) (v : WorldState) (s : Seen) (now : Past) → IsWorldOf p (world_of p w lines) v s → ((files : ℕ → ℕ → List ℕ) → IsJointImage now files → IsJointImage (past_in 0 s) files) → LeavesAll p w lines now
 leaves_all p w lines v s now is were = record {
+  causal = is.causal;
   restores = λ files images. rest_restores p (world_of p w lines) v s files is (were files images);
   holds = λ files images. holds_told p w lines (texts_of p w lines) None files (rest_restores p (world_of p w lines) v s files is (were files images));
 }
@@ -205,10 +209,10 @@ module _ (old calm : Seen) (p : Program) (w : World) (lines unanswered : List Do
       (λ now here.
       let quiet : here.front ≡ [] = none_front here.front here.tail here.whole in
       let says : said now.trace ≡ said old.trace = here.says ∙ ap (λ t. said old.trace ++ t) quiet ∙ append-nil (said old.trace) in
-      stop_here p w lines (past_in 0 old) now None says tt (start_left p w old [] now o.opens.opening.is_program begins here))
+      stop_here p w lines (past_in 0 old) now None says tt opened_is.causal (start_left p w old [] now o.opens.opening.is_program begins here))
       (throughout_outputs old o.part_read o.part [] none begins.told o.reads_part))
       (weaken (past_in 0 o.part_read) (past_in 0 o.opened) (Quiet o.part_read (LeavesStart p w)) (Stops p w lines (past_in 0 old))
-      (λ now here. stop_here p w lines (past_in 0 old) now None (here.says ∙ said_part) tt here.holds)
+      (λ now here. stop_here p w lines (past_in 0 old) now None (here.says ∙ said_part) tt opened_is.causal here.holds)
       (quiet_moments o.part_read o.opened (LeavesStart p w) begins_part.told o.opens.opening.goes (o.opens.opening.restores w begins_part)))
 
   -- at each moment up to the last line's end
@@ -218,6 +222,22 @@ module _ (old calm : Seen) (p : Program) (w : World) (lines unanswered : List Do
       (weaken (past_in 0 o.opened) (past_in 0 calm) (Stops p w (o.answered ++ unanswered) (past_in 0 o.opened)) (Stops p w lines (past_in 0 old))
       (λ now here. subst (λ l. Stops p w l (past_in 0 old) now) (sym o.these) (rebased p w (o.answered ++ unanswered) (past_in 0 o.opened) (past_in 0 old) now said_opened here))
       in_lines)
+
+  -- how the lines fared
+  last_fares : (lines : List DoneLine) (v v' : WorldState) (a b : Seen) (u : World) → a.told ≡ true → IsWorldOf p u v a → DoesLast p lines v v' a b → AllLast a b × Fares lines a b
+  last_fares [] v v' a b u told is d = (subst (λ s. AllLast a s) (sym d.1) (stays a), fares_none a b)
+  last_fares (l ∷ []) v v' a b u told is d =
+      let f = line_fares p o.opens.opening.is_program u v v' a b told is l.line l.answer l.outcome d in
+      let g = line_goes p l.line v v' l.answer l.outcome a b d in
+      (does_last a b [] [] g.faults _ g.does, fares_one l a b f.0 f.1)
+  last_fares (l ∷ m ∷ lines) v v' a b u told is d = absurd d
+
+  pub lines_fare : (new : Seen) → AllLast calm new → Fares (o.answered ++ unanswered) old new
+  lines_fare new after =
+      let own = last_fares unanswered o.before last o.begun calm (world_of p w o.answered) begun_told begun_is o.own in
+      let acted_all = acts_fare p o.opens.opening.is_program o.answered unanswered o.devices o.before o.opened o.mid calm w opened_told opened_is o.acts (last_on o.mid o.begun calm (does_last o.mid o.begun o.ahead [] none _ o.reads) own.0) (fares_within unanswered o.mid o.begun calm calm (does_last o.mid o.begun o.ahead [] none _ o.reads) (stays calm) own.1) in
+      let g = o.opens.opening.goes in
+      fares_within (o.answered ++ unanswered) old o.opened calm new (last_on old o.part_read o.opened (does_last old o.part_read o.part [] none _ o.reads_part) (does_last o.part_read o.opened [] [] g.faults _ g.does)) after acted_all
 
   -- and to the end of what is said behind them
   pub whole_run : (halted new : Seen) (failed : Bool) (text : List ℕ) (s : Status) → Halts failed calm halted → Closes halted new text s → SurvivesLines p w lines (past_in 0 old) (past_in 0 calm) (past_in 0 new)
@@ -229,6 +249,24 @@ module _ (old calm : Seen) (p : Program) (w : World) (lines unanswered : List Do
   }
 
 -- ---- a whole run
+
+-- no count is less at the end
+closes_last : (halted new : Seen) (last : List ℕ) (s : Status) → Closes halted new last s → AllLast halted new
+closes_last halted new last status.Output k = last_on halted k.before new (does_last halted k.before [] k.front none _ k.does) (λ kind. lasts _ _ _ (k.failed.moves.counts kind))
+closes_last halted new last status.Done k = does_last halted new [] last none _ k
+closes_last halted new last status.Words k = does_last halted new [] last none _ k
+closes_last halted new last status.Program k = does_last halted new [] last none _ k
+closes_last halted new last status.Store k = does_last halted new [] last none _ k
+closes_last halted new last status.OtherProgram k = does_last halted new [] last none _ k
+closes_last halted new last status.Disk k = does_last halted new [] last none _ k
+closes_last halted new last status.Input k = does_last halted new [] last none _ k
+closes_last halted new last status.Memory k = does_last halted new [] last none _ k
+closes_last halted new last status.TooLong k = does_last halted new [] last none _ k
+closes_last halted new last status.Line k = does_last halted new [] last none _ k
+
+halts_last : (failed : Bool) (calm halted : Seen) → Halts failed calm halted → AllLast calm halted
+halts_last false calm halted h = subst (λ s. AllLast calm s) (sym h) (stays calm)
+halts_last true calm halted h = λ kind. lasts _ _ _ (h.moves.counts kind)
 
 -- a device doesn't open
 module _ (old calm halted new : Seen) (p : Program) (w : World) (u : ℕ × OpenFault) (read : List ℕ) (part_read : Seen) (d : Does old part_read read [] none) (opening : IsOpening p (Some u) part_read calm) (begins : Begins p w old) where
@@ -274,6 +312,17 @@ module _ (j : Job) (old new : Seen) (s : Status) (r : Runs j old new s) where
       let o : Ordered old r.calm x.program r.lines r.unanswered last = subst (λ (z : Session). Ordered old r.calm z.program r.lines r.unanswered last) same ordered in
       whole_run old r.calm x.program w r.lines r.unanswered last o begins r.halted new r.outcomes.input_failed r.last s r.halts r.closes
 
+  run_last : AllLast r.calm new
+  run_last = last_on r.calm r.halted new (halts_last r.outcomes.input_failed r.calm r.halted r.halts) (closes_last r.halted new r.last s r.closes)
+
+  fares_by : (x : Session) (w : World) → has ≡ Some x → Begins x.program w old → Course j r.verdict r.outcomes.unopened has r.lines r.unanswered old r.calm → Fares r.lines old new
+  fares_by x w is begins (reads lacks opens did un does) = let no : ◌≡◌ {A = Option Session} (Some x) None = sym is ∙ lacks in absurd (cc)
+  fares_by x w is begins (opens_none run accepted fault lacks did un does opening) = let no : ◌≡◌ {A = Option Session} (Some x) None = sym is ∙ lacks in absurd (cc)
+  fares_by x w is begins (serves {s = y} {last = last} run accepted opens own spelled ordered) =
+      let same : y ≡ x = one_session x y (sym is ∙ own) in
+      let o : Ordered old r.calm x.program r.lines r.unanswered last = subst (λ (z : Session). Ordered old r.calm z.program r.lines r.unanswered last) same ordered in
+      subst (λ l. Fares l old new) (sym o.these) (lines_fare old r.calm x.program w r.lines r.unanswered last o begins new run_last)
+
   by_opening : (p : Program) (w : World) (u : ℕ × OpenFault) → r.verdict ≡ Accepted p → r.outcomes.unopened ≡ Some u → Begins p w old → Course j r.verdict r.outcomes.unopened has r.lines r.unanswered old r.calm → Throughout (past_in 0 old) (past_in 0 new) (LeavesStart p w)
   by_opening p w u accepted is begins (reads lacks opens did un does) = let no : ◌≡◌ {A = Option (ℕ × OpenFault)} (Some u) None = sym is ∙ opens in absurd (cc)
   by_opening p w u accepted is begins (serves run verdict opens own spelled ordered) = let no : ◌≡◌ {A = Option (ℕ × OpenFault)} (Some u) None = sym is ∙ opens in absurd (cc)
@@ -290,6 +339,7 @@ module _ (j : Job) (old new : Seen) (s : Status) (r : Runs j old new s) where
   pub survives : Survives j old new s
   survives = record {
     runs = r;
+    fares = λ x w is begins. fares_by x w is begins r.course;
     session = λ x w is begins. by_session x w is begins r.course;
     unopened = λ p w u accepted is begins. by_opening p w u accepted is begins r.course;
     still = λ none opened told. by_reading none opened told r.course;
