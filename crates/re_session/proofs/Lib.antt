@@ -2,6 +2,7 @@ pub mod Acknowledged
 pub mod Acting
 pub mod Agreements
 pub mod Answering
+pub mod Blank
 pub mod Codes
 pub mod CommandCodes
 pub mod Faring

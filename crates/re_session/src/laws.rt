@@ -8,6 +8,7 @@ ghost use Rattle.re_outside.specs.Port.{past_in};
 ghost use Rattle.re_print.specs.Canonical.{word_text};
 ghost use Rattle.re_prop.specs.Touched.{is_replicated_at};
 ghost use Rattle.re_session.specs.Acts.{Acts, DoneLine, said_by};
+ghost use Rattle.re_session.specs.Begins.{Begins};
 ghost use Rattle.re_session.specs.Fares.{Fares};
 ghost use Rattle.re_session.specs.Histories.{Asks, HaveSame, IsEntry, IsStoppedFor, LacksDevice, LacksPacket, last_set, needed_running, settler_of};
 ghost use Rattle.re_session.specs.LineAnswers.{fault_code, line_after, line_answer, line_text, lines_after, texts};
@@ -16,7 +17,7 @@ ghost use Rattle.re_terms.specs.Admission.{device_count};
 ghost use Rattle.re_terms.specs.CausalWorlds.{IsCausalWorld};
 ghost use Rattle.re_terms.specs.Cells.{cell_place};
 ghost use Rattle.re_terms.specs.Dependencies.{graph_of, support};
-ghost use Rattle.re_terms.specs.DeviceWorlds.{World, Outcome, Fine, Memory, Failed, BadStore, OtherProgram, calls_files, device_of, device_state, reads_store, recovered, refusal, settled_number, taken, takes_no_more};
+ghost use Rattle.re_terms.specs.DeviceWorlds.{World, Outcome, blank_world, Fine, Memory, Failed, BadStore, OtherProgram, calls_files, device_of, device_state, reads_store, recovered, refusal, settled_number, taken, takes_no_more};
 ghost use Rattle.re_terms.specs.Entries.{Merge, turn_entry};
 ghost use Rattle.re_terms.specs.Lines.{Done, number_told};
 ghost use Rattle.re_terms.specs.Limits.{OperationFault, updates_fault};
@@ -62,6 +63,11 @@ pub fn stop_law()
 /// has risen, each of them fared well, or memory ran out for it.
 pub fn fares_law()
     ensures { (p : Program) (lines : List DoneLine) (before after : WorldState) (old new : Seen) (w : World) → IsProgram p → old.told ≡ true → Acts p lines before after old new → IsWorldOf p w before old → Fares lines old new }
+{}
+
+/// Blank files are files over which a session may begin, in the world of no entry.
+pub fn blank_law()
+    ensures { (p : Program) (s : Seen) → IsProgram p → s.told ≡ true → s.trace ≡ [] → ((d f : ℕ) → s.start d f ≡ []) → Begins p (blank_world p) s }
 {}
 
 /// Files that restore to a world are files over which a session may begin: the update log behind them goes on, and each device begins in
