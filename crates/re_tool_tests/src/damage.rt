@@ -18,7 +18,7 @@ struct Stored {
 /// The length 70 behind an open gate, and nothing behind it.
 const CUT: &[u8] = b"\x01\0\0\0\x46";
 
-const STORED: [Stored; 12] = [
+const STORED: [Stored; 13] = [
     // A file that is blank.
     Stored {
         input: b"device a; var x: int = 2; signal s = x + 3;\n---\nget a s\nturn a x = 5\nget a s\n",
@@ -98,16 +98,24 @@ const STORED: [Stored; 12] = [
         said: b"rescala: device a: bad store, file 0 at 5\n",
         status: Status::Store,
     },
+    // A refused program stands before a bad store.
+    Stored {
+        input: b"x\n---\nget a x\n",
+        files: [CUT, b"", b"", b""],
+        said: b"rescala: program: unexpected token at 0\n",
+        status: Status::Program,
+    },
 ];
 
 /// The place of the first row that says something else.
 fn first_unlike(
     rt: &(impl Threads + Wait + Sync),
     alloc: Global,
+    rows: &[Stored],
 ) -> Result<Option<usize>, AllocError> {
-    for (place, row) in STORED.iter().enumerate() {
-        let run = run_over(rt, alloc, row.input, files_of(alloc, &row.files)?)?;
-        if !run.ends(alloc, row.status, row.said)? {
+    for (place, row) in rows.iter().enumerate() {
+        let files = files_of(alloc, &row.files)?;
+        if !run_over(rt, alloc, row.input, files)?.is(row.status, row.said) {
             return Ok(Some(place));
         }
     }
@@ -116,7 +124,7 @@ fn first_unlike(
 
 #[test]
 fn stores_are_found_or_refused(rt: HostRuntime) -> Result<(), Fail> {
-    assert_eq!(rt; first_unlike(&rt, rt.alloc())?, None);
+    assert_eq!(rt; first_unlike(&rt, rt.alloc(), &STORED)?, None);
     Ok(())
 }
 
@@ -128,6 +136,9 @@ struct Damaged {
     said: &'static [u8],
     status: Status,
 }
+
+/// An input that looks at the var.
+const LOOK: &[u8] = b"device a; var x: int = 0;\n---\nget a x\n";
 
 const DAMAGED: [Damaged; 14] = [
     Damaged {
@@ -230,34 +241,29 @@ const DAMAGED: [Damaged; 14] = [
     },
 ];
 
-/// The file of a turn with the change of a row.
-fn file_of(alloc: Global, row: &Damaged) -> Result<Vec<u8>, AllocError> {
-    let mut file = Vec::new(alloc);
-    for (place, byte) in FILE.iter().enumerate().take(row.kept) {
-        let put = match place.checked_sub(row.at) {
-            Some(behind) => row.put.get(behind),
-            None => None,
-        };
-        file.push(*put.unwrap_or(byte))?;
+/// A file with the change of a row.
+fn changed(alloc: Global, file: &[u8], row: &Damaged) -> Result<Vec<u8>, AllocError> {
+    let mut changed = file.to_vec(alloc)?;
+    for (behind, byte) in row.put.iter().enumerate() {
+        let place = row.at.saturating_add(behind);
+        if place < changed.len() {
+            changed[place] = *byte;
+        }
     }
-    Ok(file)
+    changed.truncate(row.kept);
+    Ok(changed)
 }
 
 /// The place of the first row that says something else.
 fn first_unrefused(
     rt: &(impl Threads + Wait + Sync),
     alloc: Global,
+    rows: &[Damaged],
 ) -> Result<Option<usize>, AllocError> {
-    for (place, row) in DAMAGED.iter().enumerate() {
-        let file = file_of(alloc, row)?;
+    for (place, row) in rows.iter().enumerate() {
+        let file = changed(alloc, FILE, row)?;
         let files = files_of(alloc, &[&file])?;
-        let run = run_over(
-            rt,
-            alloc,
-            b"device a; var x: int = 0;\n---\nget a x\n",
-            files,
-        )?;
-        if !run.ends(alloc, row.status, row.said)? {
+        if !run_over(rt, alloc, LOOK, files)?.is(row.status, row.said) {
             return Ok(Some(place));
         }
     }
@@ -266,6 +272,6 @@ fn first_unrefused(
 
 #[test]
 fn damaged_stores_are_refused(rt: HostRuntime) -> Result<(), Fail> {
-    assert_eq!(rt; first_unrefused(&rt, rt.alloc())?, None);
+    assert_eq!(rt; first_unrefused(&rt, rt.alloc(), &DAMAGED)?, None);
     Ok(())
 }
