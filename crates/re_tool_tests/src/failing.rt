@@ -1,5 +1,5 @@
 //! Runs in which calls of the outside fail.
-use crate::running::{ended, no_files, world_of};
+use crate::running::{ending, no_files, world_of};
 use re_fakes::Fail;
 use re_outside::Call;
 use re_tool::Status;
@@ -243,7 +243,7 @@ fn first_unlike(
 ) -> Result<Option<usize>, AllocError> {
     for (place, row) in rows.iter().enumerate() {
         let world = world_of(alloc, row.input, no_files(alloc), &[row.fail])?;
-        if !ended(rt, alloc, &[row.word], world)?.is(row.status, row.said) {
+        if !ending(rt, alloc, &[row.word], world)?.is(row.status, row.said) {
             return Ok(Some(place));
         }
     }
@@ -363,7 +363,7 @@ fn first_further(
     for (place, row) in rows.iter().enumerate() {
         let fails = three_calls(row.call, row.first);
         let world = world_of(alloc, row.input, no_files(alloc), &fails)?;
-        if ended(rt, alloc, &[row.word], world)?.failed != row.failed {
+        if ending(rt, alloc, &[row.word], world)?.failed != row.failed {
             return Ok(Some(place));
         }
     }

@@ -1,5 +1,5 @@
 //! The words of a command line, and how the input is read.
-use crate::running::{OpenGate, ended, job, no_files, words_of, world_of};
+use crate::running::{OpenGate, ending, job, no_files, words_of, world_of};
 use re_outside::{Failed, Outside};
 use re_tool::{Status, tool};
 use std::alloc::{AllocError, Global};
@@ -30,7 +30,7 @@ fn first_accepted(
 ) -> Result<Option<usize>, AllocError> {
     for (place, words) in lines.iter().enumerate() {
         let world = world_of(alloc, SUM, no_files(alloc), &[])?;
-        if !ended(rt, alloc, *words, world)?.is(Status::Words, b"rescala: bad words\n") {
+        if !ending(rt, alloc, *words, world)?.is(Status::Words, b"rescala: bad words\n") {
             return Ok(Some(place));
         }
     }

@@ -114,7 +114,7 @@ pub fn called(
 }
 
 /// How the top call with these words ends over a world.
-pub fn ended(
+pub fn ending(
     rt: &(impl Threads + Wait + Sync),
     alloc: Global,
     words: &[&str],
@@ -137,7 +137,7 @@ pub fn job(
     input: &[u8],
 ) -> Result<Ended, AllocError> {
     let world = world_of(alloc, input, no_files(alloc), &[])?;
-    ended(rt, alloc, &[word], world)
+    ending(rt, alloc, &[word], world)
 }
 
 /// How a run over these files ends.
@@ -148,7 +148,7 @@ pub fn run_over(
     files: Files,
 ) -> Result<Ended, AllocError> {
     let world = world_of(alloc, input, files, &[])?;
-    ended(rt, alloc, &["run"], world)
+    ending(rt, alloc, &["run"], world)
 }
 
 /// The place of the first row that isn't answered as it says.
