@@ -1,5 +1,5 @@
 //! Runs in which calls of the outside fail.
-use crate::running::job;
+use crate::running::{ending, no_files, world_of};
 use re_fakes::Fail;
 use re_outside::Call;
 use re_tool::Status;
@@ -8,8 +8,9 @@ use std::sync::Wait;
 use std::test::Fail as TestFail;
 use std::thread::Threads;
 
-/// An input, the call that fails, and what a run says.
+/// A word and an input, the call that fails, and what is said.
 struct Failing {
+    word: &'static str,
     input: &'static [u8],
     fail: Fail,
     said: &'static [u8],
@@ -27,9 +28,10 @@ const AGAIN: &[u8] =
 
 const TWO: &[u8] = b"device a; device b; var x: int = 0;\n---\nget a x\n";
 
-const FAILING: [Failing; 17] = [
+const FAILING: [Failing; 18] = [
     // While the device is opened.
     Failing {
+        word: "run",
         input: SUM,
         fail: Fail {
             call: Call::Sync,
@@ -40,6 +42,7 @@ const FAILING: [Failing; 17] = [
         status: Status::Disk,
     },
     Failing {
+        word: "run",
         input: SUM,
         fail: Fail {
             call: Call::Size,
@@ -50,6 +53,7 @@ const FAILING: [Failing; 17] = [
         status: Status::Disk,
     },
     Failing {
+        word: "run",
         input: TURNS,
         fail: Fail {
             call: Call::Write,
@@ -60,6 +64,7 @@ const FAILING: [Failing; 17] = [
         status: Status::Disk,
     },
     Failing {
+        word: "run",
         input: TURNS,
         fail: Fail {
             call: Call::Write,
@@ -70,6 +75,7 @@ const FAILING: [Failing; 17] = [
         status: Status::Disk,
     },
     Failing {
+        word: "run",
         input: TWO,
         fail: Fail {
             call: Call::Size,
@@ -81,6 +87,7 @@ const FAILING: [Failing; 17] = [
     },
     // While a turn is committed.
     Failing {
+        word: "run",
         input: TURNS,
         fail: Fail {
             call: Call::Write,
@@ -91,6 +98,7 @@ const FAILING: [Failing; 17] = [
         status: Status::Done,
     },
     Failing {
+        word: "run",
         input: TURNS,
         fail: Fail {
             call: Call::Sync,
@@ -101,6 +109,7 @@ const FAILING: [Failing; 17] = [
         status: Status::Done,
     },
     Failing {
+        word: "run",
         input: TURNS,
         fail: Fail {
             call: Call::Write,
@@ -111,6 +120,7 @@ const FAILING: [Failing; 17] = [
         status: Status::Done,
     },
     Failing {
+        word: "run",
         input: TURNS,
         fail: Fail {
             call: Call::Write,
@@ -121,6 +131,7 @@ const FAILING: [Failing; 17] = [
         status: Status::Done,
     },
     Failing {
+        word: "run",
         input: TURNS,
         fail: Fail {
             call: Call::Sync,
@@ -132,6 +143,7 @@ const FAILING: [Failing; 17] = [
     },
     // While the device is opened again.
     Failing {
+        word: "run",
         input: AGAIN,
         fail: Fail {
             call: Call::Sync,
@@ -143,6 +155,7 @@ const FAILING: [Failing; 17] = [
     },
     // The input fails, and no second take is tried: the program part would be refused.
     Failing {
+        word: "run",
         input: SUM,
         fail: Fail {
             call: Call::Take,
@@ -153,6 +166,7 @@ const FAILING: [Failing; 17] = [
         status: Status::Input,
     },
     Failing {
+        word: "run",
         input: b"x\n---\n",
         fail: Fail {
             call: Call::Take,
@@ -164,6 +178,7 @@ const FAILING: [Failing; 17] = [
     },
     // What was complete before is answered, and the rest isn't.
     Failing {
+        word: "run",
         input: b"device a; var x: int = 1;\n---\nget a x\nget a x",
         fail: Fail {
             call: Call::Take,
@@ -175,6 +190,7 @@ const FAILING: [Failing; 17] = [
     },
     // The output fails.
     Failing {
+        word: "run",
         input: SUM,
         fail: Fail {
             call: Call::Say,
@@ -185,6 +201,7 @@ const FAILING: [Failing; 17] = [
         status: Status::Output,
     },
     Failing {
+        word: "run",
         input: SUM,
         fail: Fail {
             call: Call::Say,
@@ -195,6 +212,7 @@ const FAILING: [Failing; 17] = [
         status: Status::Output,
     },
     Failing {
+        word: "run",
         input: b"x\n---\n",
         fail: Fail {
             call: Call::Say,
@@ -204,16 +222,28 @@ const FAILING: [Failing; 17] = [
         said: b"",
         status: Status::Output,
     },
+    Failing {
+        word: "check",
+        input: b"device a; device b;",
+        fail: Fail {
+            call: Call::Say,
+            nth: 2,
+            done: 0,
+        },
+        said: b"device a;\n",
+        status: Status::Output,
+    },
 ];
 
 /// The place of the first row that says something else.
 fn first_unlike(
     rt: &(impl Threads + Wait + Sync),
     alloc: Global,
+    rows: &[Failing],
 ) -> Result<Option<usize>, AllocError> {
-    for (place, row) in FAILING.iter().enumerate() {
-        let run = job(rt, alloc, "run", row.input, &[row.fail])?;
-        if !run.ends(alloc, row.status, row.said)? {
+    for (place, row) in rows.iter().enumerate() {
+        let world = world_of(alloc, row.input, no_files(alloc), &[row.fail])?;
+        if !ending(rt, alloc, &[row.word], world)?.is(row.status, row.said) {
             return Ok(Some(place));
         }
     }
@@ -222,11 +252,11 @@ fn first_unlike(
 
 #[test]
 fn calls_that_fail_are_told(rt: HostRuntime) -> Result<(), TestFail> {
-    assert_eq!(rt; first_unlike(&rt, rt.alloc())?, None);
+    assert_eq!(rt; first_unlike(&rt, rt.alloc(), &FAILING)?, None);
     Ok(())
 }
 
-/// An input, a word, and how many calls fail.
+/// A word and an input, the first of the calls that would fail, and how many are made.
 struct Tried {
     word: &'static str,
     input: &'static [u8],
@@ -302,30 +332,38 @@ const TRIED: [Tried; 9] = [
     },
 ];
 
-/// How many calls of a row fail, where each of its kind does from the first one on, three times at most.
-fn failed_calls(
-    rt: &(impl Threads + Wait + Sync),
-    alloc: Global,
-    row: &Tried,
-) -> Result<usize, AllocError> {
-    let mut fails = Vec::new(alloc);
-    for behind in 0u64..3 {
-        fails.push(Fail {
-            call: row.call,
-            nth: row.first.saturating_add(behind),
-            done: 0,
-        })?;
-    }
-    Ok(job(rt, alloc, row.word, row.input, &fails)?.failed_calls())
+/// Three calls of a kind in a row, from this one on.
+fn three_calls(call: Call, first: u64) -> [Fail; 3] {
+    let done = 0;
+    [
+        Fail {
+            call,
+            nth: first,
+            done,
+        },
+        Fail {
+            call,
+            nth: first.saturating_add(1),
+            done,
+        },
+        Fail {
+            call,
+            nth: first.saturating_add(2),
+            done,
+        },
+    ]
 }
 
-/// The place of the first row in which another number of calls fails.
+/// The place of the first row in which another number of calls fails, where three calls in a row would.
 fn first_further(
     rt: &(impl Threads + Wait + Sync),
     alloc: Global,
+    rows: &[Tried],
 ) -> Result<Option<usize>, AllocError> {
-    for (place, row) in TRIED.iter().enumerate() {
-        if failed_calls(rt, alloc, row)? != row.failed {
+    for (place, row) in rows.iter().enumerate() {
+        let fails = three_calls(row.call, row.first);
+        let world = world_of(alloc, row.input, no_files(alloc), &fails)?;
+        if ending(rt, alloc, &[row.word], world)?.failed != row.failed {
             return Ok(Some(place));
         }
     }
@@ -334,6 +372,6 @@ fn first_further(
 
 #[test]
 fn no_further_call_is_made(rt: HostRuntime) -> Result<(), TestFail> {
-    assert_eq!(rt; first_further(&rt, rt.alloc())?, None);
+    assert_eq!(rt; first_further(&rt, rt.alloc(), &TRIED)?, None);
     Ok(())
 }

@@ -1,6 +1,5 @@
 //! The words of a command line, and how the input is read.
-use crate::running::{OpenGate, called, job, no_files, words_of, world_of};
-use re_fakes::MemoryWorld;
+use crate::running::{OpenGate, ending, job, no_files, words_of, world_of};
 use re_outside::{Failed, Outside};
 use re_tool::{Status, tool};
 use std::alloc::{AllocError, Global};
@@ -27,11 +26,11 @@ const BAD_WORDS: [&[&str]; 8] = [
 fn first_accepted(
     rt: &(impl Threads + Wait + Sync),
     alloc: Global,
+    lines: &[&[&str]],
 ) -> Result<Option<usize>, AllocError> {
-    for (place, words) in BAD_WORDS.iter().enumerate() {
+    for (place, words) in lines.iter().enumerate() {
         let world = world_of(alloc, SUM, no_files(alloc), &[])?;
-        let run = called(rt, alloc, *words, world)?;
-        if !run.ends(alloc, Status::Words, b"rescala: bad words\n")? {
+        if !ending(rt, alloc, *words, world)?.is(Status::Words, b"rescala: bad words\n") {
             return Ok(Some(place));
         }
     }
@@ -40,19 +39,24 @@ fn first_accepted(
 
 #[test]
 fn other_words_are_refused(rt: HostRuntime) -> Result<(), Fail> {
-    assert_eq!(rt; first_accepted(&rt, rt.alloc())?, None);
+    assert_eq!(rt; first_accepted(&rt, rt.alloc(), &BAD_WORDS)?, None);
     Ok(())
+}
+
+/// An input of this length, whose session has empty lines alone.
+fn empty_lines(alloc: Global, length: usize) -> Result<Vec<u8>, AllocError> {
+    let mut input = b"device a;\n---\n".to_vec(alloc)?;
+    input.resize(length, b'\n')?;
+    Ok(input)
 }
 
 #[test]
 fn too_much_input_ends_the_run(rt: HostRuntime) -> Result<(), Fail> {
-    let mut input = b"device a;\n---\n".to_vec(rt.alloc())?;
-    input.resize(16_777_216, b'\n')?;
-    let run = job(&rt, rt.alloc(), "run", &input, &[])?;
-    assert!(rt; run.ends(rt.alloc(), Status::Done, b"")?);
-    input.push(b'\n')?;
-    let run = job(&rt, rt.alloc(), "run", &input, &[])?;
-    assert!(rt; run.ends(rt.alloc(), Status::TooLong, b"rescala: input too long\n")?);
+    let most = empty_lines(rt.alloc(), 16_777_216)?;
+    assert!(rt; job(&rt, rt.alloc(), "run", &most)?.is(Status::Done, b""));
+    let more = empty_lines(rt.alloc(), 16_777_217)?;
+    let said = b"rescala: input too long\n";
+    assert!(rt; job(&rt, rt.alloc(), "run", &more)?.is(Status::TooLong, said));
     Ok(())
 }
 
@@ -69,9 +73,9 @@ fn bad_lines(alloc: Global) -> Result<Vec<u8>, AllocError> {
 
 #[test]
 fn bad_lines_lose_nothing(rt: HostRuntime) -> Result<(), Fail> {
-    let run = job(&rt, rt.alloc(), "run", &bad_lines(rt.alloc())?, &[])?;
+    let input = bad_lines(rt.alloc())?;
     let said = b"no 21\nno 20\nno 20\nno 20\nok 1\nfault 1\nno 21\n-9223372036854775808\n";
-    assert!(rt; run.ends(rt.alloc(), Status::Done, said)?);
+    assert!(rt; job(&rt, rt.alloc(), "run", &input)?.is(Status::Done, said));
     Ok(())
 }
 
@@ -132,24 +136,28 @@ impl<O: Outside> Outside for Typist<O> {
     }
 }
 
-/// An outside with this input, byte by byte, and files that hold nothing.
-fn slow_input(alloc: Global, input: &[u8]) -> Result<Typist<MemoryWorld>, AllocError> {
-    Ok(Typist {
+/// How many answers a run gives to this input, none where one came late or the input wasn't read to its end.
+fn prompt_answers(
+    rt: &(impl Threads + Wait + Sync),
+    alloc: Global,
+    input: &[u8],
+) -> Result<Option<u64>, AllocError> {
+    let mut typist = Typist {
         out: world_of(alloc, input, no_files(alloc), &[])?,
         lines: 0,
         answers: 0,
         is_late: false,
-    })
+    };
+    let words = words_of(alloc, &["run"])?;
+    if tool(rt, alloc, &words, &mut typist, &OpenGate) != Status::Done || typist.is_late {
+        return Ok(None);
+    }
+    Ok(Some(typist.answers))
 }
 
 #[test]
 fn lines_are_answered_as_they_come(rt: HostRuntime) -> Result<(), Fail> {
     let input = b"device a; var x: int = 1;\n---\nget a x\nturn a x = 2\nget a x\nget a\n";
-    let mut typist = slow_input(rt.alloc(), input)?;
-    let words = words_of(rt.alloc(), &["run"])?;
-    let status = tool(&rt, rt.alloc(), &words, &mut typist, &OpenGate);
-    assert_eq!(rt; status, Status::Done);
-    assert_eq!(rt; typist.answers, 4);
-    assert!(rt; !typist.is_late);
+    assert_eq!(rt; prompt_answers(&rt, rt.alloc(), input)?, Some(4));
     Ok(())
 }

@@ -2,8 +2,8 @@
 ghost use Rattle.std.specs.Prelude.{◌<◌, ◌^◌, length, IfSome};
 ghost use Rattle.re_terms.specs.Programs.{IsProgram};
 
+use crate::running::said_in;
 use re_fakes::{Files, MemoryWorld};
-use re_outside::Step;
 use re_print::print_program;
 use re_session::do_line;
 use re_syntax::parse;
@@ -21,17 +21,6 @@ fn in_memory(alloc: Global, input: &[u8]) -> Result<MemoryWorld, AllocError> {
         list: Seq::new(alloc),
     };
     MemoryWorld::new(alloc, input, files, Seq::new(alloc))
-}
-
-/// All that was said in memory.
-fn said(alloc: Global, out: &MemoryWorld) -> Result<Vec<u8>, AllocError> {
-    let mut said = Vec::new(alloc);
-    for step in out.trace().as_slice() {
-        if let Step::Say { bytes } = step {
-            said.extend_from_slice(bytes.as_slice())?;
-        }
-    }
-    Ok(said)
 }
 
 /// The program in a text.
@@ -54,6 +43,19 @@ fn opened(alloc: Global, program: Program, out: &mut MemoryWorld) -> Option<Worl
     World::new(alloc, out, program).ok()
 }
 
+/// Does these lines in order, each with its answer; none where one couldn't be said.
+fn do_lines(
+    alloc: Global,
+    devices: &mut World,
+    lines: &[&[u8]],
+    out: &mut MemoryWorld,
+) -> Option<()> {
+    for line in lines {
+        do_line(alloc, devices, *line, out).ok()?;
+    }
+    Some(())
+}
+
 /// What the devices of the program in a text answer to these lines, over files that hold nothing.
 fn answers(alloc: Global, text: &[u8], lines: &[&[u8]]) -> Option<Vec<u8>>
     requires { length text.now < 2 ^ 32 }
@@ -61,10 +63,8 @@ fn answers(alloc: Global, text: &[u8], lines: &[&[u8]]) -> Option<Vec<u8>>
     let program = program_of(alloc, text)?;
     let mut out = in_memory(alloc, &[]).ok()?;
     let mut devices = opened(alloc, program, &mut out)?;
-    for line in lines {
-        do_line(alloc, &mut devices, *line, &mut out).ok()?;
-    }
-    said(alloc, &out).ok()
+    do_lines(alloc, &mut devices, lines, &mut out)?;
+    said_in(alloc, out.trace().as_slice()).ok()
 }
 
 #[test]
@@ -84,18 +84,19 @@ fn devices_take_lines(rt: HostRuntime) -> Result<(), Fail> {
     Ok(())
 }
 
-/// What a session over these bytes says, in memory, and how it ends.
-fn said_in_memory(alloc: Global, input: &[u8]) -> Result<(Status, Vec<u8>), AllocError> {
+/// How a session over these bytes ends, and the world behind it.
+fn run_in_memory(alloc: Global, input: &[u8]) -> Result<(Status, MemoryWorld), AllocError> {
     let mut world = in_memory(alloc, input)?;
     let status = session(alloc, &Job::Run, &mut world);
-    Ok((status, said(alloc, &world)?))
+    Ok((status, world))
 }
 
 #[test]
 fn a_session_runs_in_memory(rt: HostRuntime) -> Result<(), Fail> {
     let input = b"device a; var x: int = 2; signal s = x + 3;\n---\nturn a x = 5\nget a s\n";
-    let (status, said) = said_in_memory(rt.alloc(), input)?;
+    let (status, world) = run_in_memory(rt.alloc(), input)?;
     assert_eq!(rt; status, Status::Done);
+    let said = said_in(rt.alloc(), world.trace().as_slice())?;
     assert_eq!(rt; said.as_slice(), b"ok 1\n8\n".as_slice());
     Ok(())
 }

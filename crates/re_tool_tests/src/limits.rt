@@ -1,5 +1,6 @@
 //! Runs that reach a limit, or are long.
-use crate::running::{Run, job, run_over};
+use crate::running::{job, run_over};
+use crate::steps::{left, left_at};
 use re_fakes::{Choice, Files};
 use re_tool::Status;
 use std::alloc::{AllocError, Global};
@@ -28,8 +29,7 @@ fn a_turn_has_64_parts_at_most(rt: HostRuntime) -> Result<(), Fail> {
     input.extend_from_slice(&repeated(rt.alloc(), b"add c 1", 65)?)?;
     input.extend_from_slice(&repeated(rt.alloc(), b"add c 1", 64)?)?;
     input.extend_from_slice(b"get a c\n")?;
-    let run = job(&rt, rt.alloc(), "run", &input, &[])?;
-    assert!(rt; run.ends(rt.alloc(), Status::Done, b"no 25\nok 1\n64\n")?);
+    assert!(rt; job(&rt, rt.alloc(), "run", &input)?.is(Status::Done, b"no 25\nok 1\n64\n"));
     Ok(())
 }
 
@@ -70,8 +70,7 @@ fn a_full_set_takes_no_more(rt: HostRuntime) -> Result<(), Fail> {
     input.extend_from_slice(b"turn a insert s 1024\nturn a insert s 5\nget a n\n")?;
     let mut said = entered(rt.alloc(), 16)?;
     said.extend_from_slice(b"no 30\nok 17\n1024\n")?;
-    let run = job(&rt, rt.alloc(), "run", &input, &[])?;
-    assert!(rt; run.ends(rt.alloc(), Status::Done, &said)?);
+    assert!(rt; job(&rt, rt.alloc(), "run", &input)?.is(Status::Done, &said));
     Ok(())
 }
 
@@ -90,8 +89,7 @@ fn each_signal_is_evaluated_once(rt: HostRuntime) -> Result<(), Fail> {
     let mut input = chain(rt.alloc())?;
     input.extend_from_slice(b"---\nget a s61\nget a s62\nget a s400\nturn a x = 0\nget a s400\n")?;
     let said = b"4611686018427387904\nfault 1\nfault 1\nok 1\n0\n";
-    let run = job(&rt, rt.alloc(), "run", &input, &[])?;
-    assert!(rt; run.ends(rt.alloc(), Status::Done, said)?);
+    assert!(rt; job(&rt, rt.alloc(), "run", &input)?.is(Status::Done, said));
     Ok(())
 }
 
@@ -111,35 +109,29 @@ fn a_full_device_takes_no_more(rt: HostRuntime) -> Result<(), Fail> {
     let input = turns(rt.alloc(), 4_096, b"turn a x = 7\nget a x\n")?;
     let mut said = entered(rt.alloc(), 4_096)?;
     said.extend_from_slice(b"no 29\n4096\n")?;
-    let run = job(&rt, rt.alloc(), "run", &input, &[])?;
-    assert!(rt; run.ends(rt.alloc(), Status::Done, &said)?);
+    assert!(rt; job(&rt, rt.alloc(), "run", &input)?.is(Status::Done, &said));
     Ok(())
 }
 
-/// How long the files of device 0 are.
-fn lengths(files: &Files) -> (usize, usize) {
-    (files.bytes(0, 0).len(), files.bytes(0, 1).len())
+/// Whether the files of device 0 are so long.
+fn has_lengths(files: &Files, first: usize, second: usize) -> bool {
+    files.bytes(0, 0).len() == first && files.bytes(0, 1).len() == second
 }
 
 #[test]
 fn a_long_journal_is_followed_by_a_snapshot(rt: HostRuntime) -> Result<(), Fail> {
     let lines = b"crash a\nrestart a\nget a x\nturn a x = 0\n";
+    let input = turns(rt.alloc(), 1_929, lines)?;
     let mut said = entered(rt.alloc(), 1_929)?;
     said.extend_from_slice(b"down\nup 1929\n1929\nok 1930\n")?;
-    let run = job(
-        &rt,
-        rt.alloc(),
-        "run",
-        &turns(rt.alloc(), 1_929, lines)?,
-        &[],
-    )?;
-    assert!(rt; run.ends(rt.alloc(), Status::Done, &said)?);
-    assert_eq!(rt; lengths(run.world.files()), (65_628, 144));
+    assert!(rt; job(&rt, rt.alloc(), "run", &input)?.is(Status::Done, &said));
+    let files = left(&rt, rt.alloc(), &input)?;
+    assert!(rt; has_lengths(&files, 65_628, 144));
     Ok(())
 }
 
 /// Whether a run over what is left by a stop finds 1,928 or 1,929 entries.
-fn is_left(
+fn is_found(
     rt: &(impl Threads + Wait + Sync),
     alloc: Global,
     files: Option<Files>,
@@ -148,35 +140,40 @@ fn is_left(
         return Ok(false);
     };
     let input = b"device a; var x: int = 0;\n---\nget a x\nturn a x = 0\n";
-    let run = run_over(rt, alloc, input, files)?;
-    Ok(
-        run.ends(alloc, Status::Done, b"1928\nok 1929\n")?
-            || run.ends(alloc, Status::Done, b"1929\nok 1930\n")?,
-    )
+    let ended = run_over(rt, alloc, input, files)?;
+    Ok(ended.is(Status::Done, b"1928\nok 1929\n") || ended.is(Status::Done, b"1929\nok 1930\n"))
 }
 
-/// The first stop within the last turn that leaves something else: a count of steps.
-fn first_lost(
+/// Whether each stop by this choice within the last turn leaves 1,928 or 1,929 entries.
+fn are_found(
     rt: &(impl Threads + Wait + Sync),
     alloc: Global,
-    run: &Run,
-) -> Result<Option<u64>, AllocError> {
-    let steps = run.world.trace().len() as u64;
-    for step in steps.saturating_sub(11)..=steps {
-        for choice in [Choice::Stable, Choice::Read, Choice::Sevens, Choice::Ones] {
-            if !is_left(rt, alloc, run.world.stop_at(step, choice)?)? {
-                return Ok(Some(step));
-            }
+    input: &[u8],
+    choice: Choice,
+) -> Result<bool, AllocError> {
+    for steps in SETTLED..=ALL_STEPS {
+        let files = left_at(rt, alloc, input, steps, choice)?;
+        if !is_found(rt, alloc, files)? {
+            return Ok(false);
         }
     }
-    Ok(None)
+    Ok(true)
 }
+
+/// The steps up to the last turn: 8 of the opening, and of each turn 4 on the files and its answer.
+const SETTLED: u64 = 8 + 5 * 1_928;
+
+/// All steps: in the last turn 6 lay a snapshot before its own 5.
+const ALL_STEPS: u64 = SETTLED + 11;
 
 #[test]
 fn a_stop_within_a_snapshot_loses_nothing(rt: HostRuntime) -> Result<(), Fail> {
-    let run = job(&rt, rt.alloc(), "run", &turns(rt.alloc(), 1_929, b"")?, &[])?;
-    assert!(rt; run.ends(rt.alloc(), Status::Done, &entered(rt.alloc(), 1_929)?)?);
-    assert_eq!(rt; lengths(run.world.files()), (65_628, 110));
-    assert_eq!(rt; first_lost(&rt, rt.alloc(), &run)?, None);
+    let input = turns(rt.alloc(), 1_929, b"")?;
+    let files = left(&rt, rt.alloc(), &input)?;
+    assert!(rt; has_lengths(&files, 65_628, 110));
+    assert!(rt; left_at(&rt, rt.alloc(), &input, ALL_STEPS + 1, Choice::Read)?.is_none());
+    for choice in [Choice::Stable, Choice::Read, Choice::Sevens, Choice::Ones] {
+        assert!(rt; are_found(&rt, rt.alloc(), &input, choice)?);
+    }
     Ok(())
 }

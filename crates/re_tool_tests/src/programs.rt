@@ -1,11 +1,9 @@
 //! Program parts that are refused, and what `check` says of others.
 use crate::running::job;
-use re_fakes::Fail;
-use re_outside::Call;
 use re_tool::Status;
 use std::alloc::{AllocError, Global};
 use std::sync::Wait;
-use std::test::Fail as TestFail;
+use std::test::Fail;
 use std::thread::Threads;
 
 /// A program part, and why it is refused.
@@ -31,7 +29,7 @@ fn is_refused(
     let mut line = b"rescala: program: ".to_vec(alloc)?;
     line.extend_from_slice(why)?;
     line.push(b'\n')?;
-    job(rt, alloc, word, part, &[])?.ends(alloc, Status::Program, &line)
+    Ok(job(rt, alloc, word, part)?.is(Status::Program, &line))
 }
 
 /// The place of the first program part that this job doesn't refuse as its row says.
@@ -110,7 +108,7 @@ const REFUSED: [Refused; 14] = [
 ];
 
 #[test]
-fn programs_are_refused(rt: HostRuntime) -> Result<(), TestFail> {
+fn programs_are_refused(rt: HostRuntime) -> Result<(), Fail> {
     assert_eq!(rt; first_taken(&rt, rt.alloc(), "run", &REFUSED)?, None);
     assert_eq!(rt; first_taken(&rt, rt.alloc(), "check", &REFUSED)?, None);
     Ok(())
@@ -249,7 +247,7 @@ const UNEXPECTED: [Refused; 32] = [
 ];
 
 #[test]
-fn unexpected_tokens_are_refused(rt: HostRuntime) -> Result<(), TestFail> {
+fn unexpected_tokens_are_refused(rt: HostRuntime) -> Result<(), Fail> {
     assert_eq!(rt; first_taken(&rt, rt.alloc(), "check", &UNEXPECTED)?, None);
     Ok(())
 }
@@ -302,9 +300,10 @@ const CHECKED: [Checked; 10] = [
 fn first_unchecked(
     rt: &(impl Threads + Wait + Sync),
     alloc: Global,
+    rows: &[Checked],
 ) -> Result<Option<usize>, AllocError> {
-    for (place, row) in CHECKED.iter().enumerate() {
-        if !job(rt, alloc, "check", row.part, &[])?.ends(alloc, Status::Done, row.text)? {
+    for (place, row) in rows.iter().enumerate() {
+        if !job(rt, alloc, "check", row.part)?.is(Status::Done, row.text) {
             return Ok(Some(place));
         }
     }
@@ -312,15 +311,8 @@ fn first_unchecked(
 }
 
 #[test]
-fn programs_are_checked(rt: HostRuntime) -> Result<(), TestFail> {
-    assert_eq!(rt; first_unchecked(&rt, rt.alloc())?, None);
-    let second = Fail {
-        call: Call::Say,
-        nth: 2,
-        done: 0,
-    };
-    let run = job(&rt, rt.alloc(), "check", b"device a; device b;", &[second])?;
-    assert!(rt; run.ends(rt.alloc(), Status::Output, b"device a;\n")?);
+fn programs_are_checked(rt: HostRuntime) -> Result<(), Fail> {
+    assert_eq!(rt; first_unchecked(&rt, rt.alloc(), &CHECKED)?, None);
     Ok(())
 }
 
@@ -340,7 +332,7 @@ fn filled(
     Ok(text)
 }
 
-/// A program part with a piece so many times in its middle, and why it is refused.
+/// A program part with a piece so many times in its middle, and why it is refused, nothing where it is taken.
 struct Long {
     front: &'static [u8],
     piece: &'static [u8],
@@ -350,7 +342,7 @@ struct Long {
 }
 
 /// Program parts that are too deep, or too long.
-const LONG: [Long; 7] = [
+const LONG: [Long; 8] = [
     Long {
         front: b"device a;\nsignal s = ",
         piece: b"(",
@@ -393,6 +385,14 @@ const LONG: [Long; 7] = [
         back: b";",
         why: b"too deep at 37",
     },
+    // A sum that is too deep, in a program part that is too long.
+    Long {
+        front: b"device a; var x: int = 1; signal s = x",
+        piece: b"+x",
+        times: 32_749,
+        back: b";",
+        why: b"too long",
+    },
     Long {
         front: b"device a;",
         piece: b" ",
@@ -407,8 +407,9 @@ fn first_long_taken(
     rt: &(impl Threads + Wait + Sync),
     alloc: Global,
     word: &str,
+    rows: &[Long],
 ) -> Result<Option<usize>, AllocError> {
-    for (place, row) in LONG.iter().enumerate() {
+    for (place, row) in rows.iter().enumerate() {
         let part = filled(alloc, row.front, row.piece, row.times, row.back)?;
         if !is_refused(rt, alloc, word, &part, row.why)? {
             return Ok(Some(place));
@@ -424,26 +425,58 @@ fn in_brackets(alloc: Global, count: usize) -> Result<Vec<u8>, AllocError> {
 }
 
 #[test]
-fn deep_and_long_programs_are_refused(rt: HostRuntime) -> Result<(), TestFail> {
-    assert_eq!(rt; first_long_taken(&rt, rt.alloc(), "run")?, None);
-    assert_eq!(rt; first_long_taken(&rt, rt.alloc(), "check")?, None);
-    let open = in_brackets(rt.alloc(), 128)?;
-    assert!(rt; is_refused(&rt, rt.alloc(), "check", &open, b"too deep at 148")?);
+fn deep_and_long_programs_are_refused(rt: HostRuntime) -> Result<(), Fail> {
+    assert_eq!(rt; first_long_taken(&rt, rt.alloc(), "run", &LONG)?, None);
+    assert_eq!(rt; first_long_taken(&rt, rt.alloc(), "check", &LONG)?, None);
     Ok(())
 }
 
 #[test]
-fn the_deepest_programs_are_taken(rt: HostRuntime) -> Result<(), TestFail> {
-    let open = in_brackets(rt.alloc(), 127)?;
-    let run = job(&rt, rt.alloc(), "check", &open, &[])?;
-    assert!(rt; run.ends(rt.alloc(), Status::Done, b"device a;\nsignal s = 1;\n")?);
-    let deep = filled(rt.alloc(), b"device a;\nsignal s = 1", b"+1", 63, b";")?;
-    let run = job(&rt, rt.alloc(), "run", &deep, &[])?;
-    assert!(rt; run.ends(rt.alloc(), Status::Done, b"")?);
-    // A program part of 65,536 bytes.
-    let longest = filled(rt.alloc(), b"device a;", b" ", 65_527, b"")?;
-    let run = job(&rt, rt.alloc(), "run", &longest, &[])?;
-    assert!(rt; run.ends(rt.alloc(), Status::Done, b"")?);
+fn open_brackets_are_counted(rt: HostRuntime) -> Result<(), Fail> {
+    let part = in_brackets(rt.alloc(), 127)?;
+    let text = b"device a;\nsignal s = 1;\n";
+    assert!(rt; job(&rt, rt.alloc(), "check", &part)?.is(Status::Done, text));
+    let part = in_brackets(rt.alloc(), 128)?;
+    assert!(rt; is_refused(&rt, rt.alloc(), "check", &part, b"too deep at 148")?);
+    Ok(())
+}
+
+/// The deepest sum, and a program part of 65,536 bytes.
+const TAKEN: [Long; 2] = [
+    Long {
+        front: b"device a;\nsignal s = 1",
+        piece: b"+1",
+        times: 63,
+        back: b";",
+        why: b"",
+    },
+    Long {
+        front: b"device a;",
+        piece: b" ",
+        times: 65_527,
+        back: b"",
+        why: b"",
+    },
+];
+
+/// The place of the first of these program parts that a run doesn't take.
+fn first_long_refused(
+    rt: &(impl Threads + Wait + Sync),
+    alloc: Global,
+    rows: &[Long],
+) -> Result<Option<usize>, AllocError> {
+    for (place, row) in rows.iter().enumerate() {
+        let part = filled(alloc, row.front, row.piece, row.times, row.back)?;
+        if !job(rt, alloc, "run", &part)?.is(Status::Done, row.why) {
+            return Ok(Some(place));
+        }
+    }
+    Ok(None)
+}
+
+#[test]
+fn the_longest_programs_are_taken(rt: HostRuntime) -> Result<(), Fail> {
+    assert_eq!(rt; first_long_refused(&rt, rt.alloc(), &TAKEN)?, None);
     Ok(())
 }
 
@@ -459,19 +492,9 @@ fn many_sums(alloc: Global, count: u32) -> Result<Vec<u8>, AllocError> {
 }
 
 #[test]
-fn a_long_canonical_text_is_refused(rt: HostRuntime) -> Result<(), TestFail> {
+fn a_long_canonical_text_is_refused(rt: HostRuntime) -> Result<(), Fail> {
     let sums = many_sums(rt.alloc(), 300)?;
     assert!(rt; sums.len() < 65_536);
     assert!(rt; is_refused(&rt, rt.alloc(), "check", &sums, b"too long")?);
-    // A sum that is too deep in a program part that is too long.
-    let long = filled(
-        rt.alloc(),
-        b"device a; var x: int = 1; signal s = x",
-        b"+x",
-        32_749,
-        b";",
-    )?;
-    assert_eq!(rt; long.len(), 65_537);
-    assert!(rt; is_refused(&rt, rt.alloc(), "run", &long, b"too long")?);
     Ok(())
 }

@@ -25,40 +25,41 @@ pub struct Row {
     pub status: Status,
 }
 
-/// A run that has ended.
+/// How a run ended: its status, what was said, and how many calls failed.
 #[derive(Drop)]
-pub struct Run {
+pub struct Ended {
     pub status: Status,
-    pub world: MemoryWorld,
+    pub said: Vec<u8>,
+    pub failed: usize,
 }
 
-impl Run {
-    /// All that was said.
-    pub fn said(&self, alloc: Global) -> Result<Vec<u8>, AllocError> {
-        let mut all = Vec::new(alloc);
-        for step in self.world.trace().as_slice() {
-            if let Step::Say { bytes } = step {
-                all.extend_from_slice(bytes.as_slice())?;
-            }
-        }
-        Ok(all)
-    }
-
+impl Ended {
     /// Whether it ended so and said this.
-    pub fn ends(&self, alloc: Global, status: Status, said: &[u8]) -> Result<bool, AllocError> {
-        let all = self.said(alloc)?;
-        Ok(self.status == status && all.as_slice() == said)
+    pub fn is(&self, status: Status, said: &[u8]) -> bool {
+        self.status == status && self.said.as_slice() == said
     }
+}
 
-    /// How many steps are those of calls that failed.
-    pub fn failed_calls(&self) -> usize {
-        self.world
-            .trace()
-            .as_slice()
-            .iter()
-            .filter(|step| matches!(step, Step::Fail { .. }))
-            .count()
+/// All that was said in these steps.
+pub fn said_in(alloc: Global, steps: &[Step]) -> Result<Vec<u8>, AllocError> {
+    let mut all = Vec::new(alloc);
+    for step in steps {
+        if let Step::Say { bytes } = step {
+            all.extend_from_slice(bytes.as_slice())?;
+        }
     }
+    Ok(all)
+}
+
+/// How many of these steps are those of calls that failed.
+pub fn failed_in(steps: &[Step]) -> usize {
+    let mut count: usize = 0;
+    for step in steps {
+        if let Step::Fail { .. } = step {
+            count = count.saturating_add(1);
+        }
+    }
+    count
 }
 
 /// Files that hold nothing.
@@ -100,39 +101,54 @@ pub fn world_of(
     MemoryWorld::new(alloc, input, files, failing)
 }
 
-/// The top call with these words, over a world.
+/// A world after the top call with these words over it, and the status.
 pub fn called(
     rt: &(impl Threads + Wait + Sync),
     alloc: Global,
     words: &[&str],
     mut world: MemoryWorld,
-) -> Result<Run, AllocError> {
+) -> Result<(Status, MemoryWorld), AllocError> {
     let words = words_of(alloc, words)?;
     let status = tool(rt, alloc, &words, &mut world, &OpenGate);
-    Ok(Run { status, world })
+    Ok((status, world))
 }
 
-/// The top call with this word over files that hold nothing, where these calls fail.
+/// How the top call with these words ends over a world.
+pub fn ending(
+    rt: &(impl Threads + Wait + Sync),
+    alloc: Global,
+    words: &[&str],
+    world: MemoryWorld,
+) -> Result<Ended, AllocError> {
+    let (status, world) = called(rt, alloc, words, world)?;
+    let steps = world.trace().as_slice();
+    Ok(Ended {
+        status,
+        said: said_in(alloc, steps)?,
+        failed: failed_in(steps),
+    })
+}
+
+/// How the top call with this word ends over this input and files that hold nothing.
 pub fn job(
     rt: &(impl Threads + Wait + Sync),
     alloc: Global,
     word: &str,
     input: &[u8],
-    fails: &[Fail],
-) -> Result<Run, AllocError> {
-    let world = world_of(alloc, input, no_files(alloc), fails)?;
-    called(rt, alloc, &[word], world)
+) -> Result<Ended, AllocError> {
+    let world = world_of(alloc, input, no_files(alloc), &[])?;
+    ending(rt, alloc, &[word], world)
 }
 
-/// A run over these files.
+/// How a run over these files ends.
 pub fn run_over(
     rt: &(impl Threads + Wait + Sync),
     alloc: Global,
     input: &[u8],
     files: Files,
-) -> Result<Run, AllocError> {
+) -> Result<Ended, AllocError> {
     let world = world_of(alloc, input, files, &[])?;
-    called(rt, alloc, &["run"], world)
+    ending(rt, alloc, &["run"], world)
 }
 
 /// The place of the first row that isn't answered as it says.
@@ -142,8 +158,7 @@ pub fn first_wrong(
     rows: &[Row],
 ) -> Result<Option<usize>, AllocError> {
     for (place, row) in rows.iter().enumerate() {
-        let run = job(rt, alloc, "run", row.input, &[])?;
-        if !run.ends(alloc, row.status, row.said)? {
+        if !job(rt, alloc, "run", row.input)?.is(row.status, row.said) {
             return Ok(Some(place));
         }
     }

@@ -198,9 +198,7 @@ const HALL_TEXT: &[u8] =
 
 #[test]
 fn three_devices_serve_a_script(rt: HostRuntime) -> Result<(), Fail> {
-    let run = job(&rt, rt.alloc(), "run", HALL, &[])?;
-    assert!(rt; run.ends(rt.alloc(), Status::Done, HALL_SAID)?);
-    let checked = job(&rt, rt.alloc(), "check", HALL, &[])?;
-    assert!(rt; checked.ends(rt.alloc(), Status::Done, HALL_TEXT)?);
+    assert!(rt; job(&rt, rt.alloc(), "run", HALL)?.is(Status::Done, HALL_SAID));
+    assert!(rt; job(&rt, rt.alloc(), "check", HALL)?.is(Status::Done, HALL_TEXT));
     Ok(())
 }

@@ -1,5 +1,5 @@
 //! The steps of a run, what a stop behind each leaves, and further runs over what was left.
-use crate::running::{Run, files_of, job, no_files, run_over};
+use crate::running::{called, files_of, no_files, run_over, world_of};
 use re_fakes::{Choice, Files};
 use re_outside::{Call, Step};
 use re_terms::TryCopy;
@@ -147,14 +147,36 @@ fn first_other(steps: &[Step]) -> Option<usize> {
     None
 }
 
+/// Whether the turn has these steps over files that hold nothing, and leaves the file.
+fn has_steps(rt: &(impl Threads + Wait + Sync), alloc: Global) -> Result<bool, AllocError> {
+    let world = world_of(alloc, TURN, no_files(alloc), &[])?;
+    let (_, world) = called(rt, alloc, &["run"], world)?;
+    Ok(world.trace().len() == 13 && first_other(world.trace().as_slice()).is_none())
+}
+
 #[test]
 fn a_turn_has_these_steps(rt: HostRuntime) -> Result<(), Fail> {
-    let run = job(&rt, rt.alloc(), "run", TURN, &[])?;
-    assert_eq!(rt; run.world.trace().len(), 13);
-    assert_eq!(rt; first_other(run.world.trace().as_slice()), None);
-    assert_eq!(rt; run.world.files().bytes(0, 0).len(), 110);
-    assert_eq!(rt; run.world.files().bytes(0, 0), FILE);
-    assert_eq!(rt; run.world.files().bytes(0, 1).len(), 0);
+    assert!(rt; has_steps(&rt, rt.alloc())?);
+    Ok(())
+}
+
+/// The files that a run over this input and files that hold nothing leaves.
+pub fn left(
+    rt: &(impl Threads + Wait + Sync),
+    alloc: Global,
+    input: &[u8],
+) -> Result<Files, AllocError> {
+    let world = world_of(alloc, input, no_files(alloc), &[])?;
+    let (_, world) = called(rt, alloc, &["run"], world)?;
+    world.files().copy(alloc)
+}
+
+#[test]
+fn a_turn_leaves_this_file(rt: HostRuntime) -> Result<(), Fail> {
+    let files = left(&rt, rt.alloc(), TURN)?;
+    assert_eq!(rt; files.bytes(0, 0).len(), 110);
+    assert_eq!(rt; files.bytes(0, 0), FILE);
+    assert_eq!(rt; files.bytes(0, 1).len(), 0);
     Ok(())
 }
 
@@ -227,15 +249,28 @@ const STOPS: [Stop; 10] = [
     },
 ];
 
-/// Whether a run over what a stop of the turn leaves says this.
-fn says_behind(
+/// What a stop behind so many steps leaves of the files of a run over this input and files that hold nothing.
+pub fn left_at(
     rt: &(impl Threads + Wait + Sync),
     alloc: Global,
-    run: &Run,
+    input: &[u8],
+    steps: u64,
+    choice: Choice,
+) -> Result<Option<Files>, AllocError> {
+    let world = world_of(alloc, input, no_files(alloc), &[])?;
+    let (_, world) = called(rt, alloc, &["run"], world)?;
+    world.stop_at(steps, choice)
+}
+
+/// Whether the lines say over what is left of files what they say of a stop.
+fn says(
+    rt: &(impl Threads + Wait + Sync),
+    alloc: Global,
+    files: Option<Files>,
     stop: &Stop,
 ) -> Result<bool, AllocError> {
-    match run.world.stop_at(stop.steps, stop.choice)? {
-        Some(files) => run_over(rt, alloc, LOOK, files)?.ends(alloc, Status::Done, stop.said),
+    match files {
+        Some(files) => Ok(run_over(rt, alloc, LOOK, files)?.is(Status::Done, stop.said)),
         None => Ok(false),
     }
 }
@@ -244,10 +279,11 @@ fn says_behind(
 fn first_lost(
     rt: &(impl Threads + Wait + Sync),
     alloc: Global,
-    run: &Run,
+    stops: &[Stop],
 ) -> Result<Option<usize>, AllocError> {
-    for (place, stop) in STOPS.iter().enumerate() {
-        if !says_behind(rt, alloc, run, stop)? {
+    for (place, stop) in stops.iter().enumerate() {
+        let files = left_at(rt, alloc, TURN, stop.steps, stop.choice)?;
+        if !says(rt, alloc, files, stop)? {
             return Ok(Some(place));
         }
     }
@@ -256,46 +292,28 @@ fn first_lost(
 
 #[test]
 fn a_stop_leaves_a_turn_whole_or_not_at_all(rt: HostRuntime) -> Result<(), Fail> {
-    let run = job(&rt, rt.alloc(), "run", TURN, &[])?;
-    assert_eq!(rt; first_lost(&rt, rt.alloc(), &run)?, None);
-    assert!(rt; run.world.stop_at(14, Choice::Read)?.is_none());
+    assert_eq!(rt; first_lost(&rt, rt.alloc(), &STOPS)?, None);
+    let files = left_at(&rt, rt.alloc(), TURN, 14, Choice::Read)?;
+    assert!(rt; files.is_none());
     Ok(())
-}
-
-/// What a stop of the turn at its gate leaves, where the gate is 7.
-fn damaged_gate(rt: &(impl Threads + Wait + Sync), alloc: Global) -> Result<Files, AllocError> {
-    let run = job(rt, alloc, "run", TURN, &[])?;
-    match run.world.stop_at(11, Choice::Sevens)? {
-        Some(files) => Ok(files),
-        None => Ok(no_files(alloc)),
-    }
 }
 
 #[test]
 fn a_run_goes_on_behind_a_stop(rt: HostRuntime) -> Result<(), Fail> {
-    let files = damaged_gate(&rt, rt.alloc())?;
-    assert_eq!(rt; files.bytes(0, 0).len(), 110);
-    assert_eq!(rt; files.bytes(0, 0)[75], 7);
+    let files = left_at(&rt, rt.alloc(), TURN, 11, Choice::Sevens)?.ok_or("no stop")?;
+    assert_eq!(rt; files.bytes(0, 0).get(75), Some(&7));
     let input = b"device a; var x: int = 0;\n---\nturn a x = 6\ncrash a\nrestart a\nget a x\n";
-    let run = run_over(&rt, rt.alloc(), input, files)?;
-    assert!(rt; run.ends(rt.alloc(), Status::Done, b"ok 1\ndown\nup 1\n6\n")?);
+    let said = b"ok 1\ndown\nup 1\n6\n";
+    assert!(rt; run_over(&rt, rt.alloc(), input, files)?.is(Status::Done, said));
     Ok(())
 }
 
 #[test]
 fn a_second_run_finds_what_the_first_left(rt: HostRuntime) -> Result<(), Fail> {
-    let first = job(&rt, rt.alloc(), "run", TURN, &[])?;
-    assert!(rt; first.ends(rt.alloc(), Status::Done, b"ok 1\n")?);
-    let files = first.world.files().copy(rt.alloc())?;
+    let files = left(&rt, rt.alloc(), TURN)?;
     let input = b"device a; var x: int = 0;\n---\nget a x\n";
-    let second = run_over(&rt, rt.alloc(), input, files)?;
-    assert!(rt; second.ends(rt.alloc(), Status::Done, b"5\n")?);
-    Ok(())
-}
-
-#[test]
-fn a_stored_turn_is_found(rt: HostRuntime) -> Result<(), Fail> {
-    let run = run_over(&rt, rt.alloc(), LOOK, files_of(rt.alloc(), &[FILE])?)?;
-    assert!(rt; run.ends(rt.alloc(), Status::Done, TURNED)?);
+    assert!(rt; run_over(&rt, rt.alloc(), input, files)?.is(Status::Done, b"5\n"));
+    let files = files_of(rt.alloc(), &[FILE])?;
+    assert!(rt; run_over(&rt, rt.alloc(), LOOK, files)?.is(Status::Done, TURNED));
     Ok(())
 }
