@@ -49,7 +49,7 @@ module _ (p : Program) (is_program : IsProgram p) (w : World) (under_way : Optio
   number_is d (inr over) h = absurd (omega (arith, h, over))
 
   same_by : (d : ℕ) (side : (d < count) ⊎ (count ≤ d)) → d < count → IsSameState p (state_by d side) (run_entries p d (w.base d) (w.settled d ++ take (r.more d) (further p w under_way d)))
-  same_by d (inl below) h = 
+  same_by d (inl below) h =
       let o = r.opens d below in
       let there = r.represents.each d below in
       let n = is_program.devices in

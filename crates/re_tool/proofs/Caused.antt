@@ -523,12 +523,16 @@ module _ (j : Job) (a b : Seen) (s : Status) (r : Runs j a b s) (h : IsOfStore s
       subst (λ x. Rose x (disk_faults d b)) first (subst (λ x. Rose (disk_faults d refused_here.0.part_read) x) (sym last) rose)
 
   find_disk : s ≡ status.Disk → (u : ℕ × OpenFault) → refused_here.0.fault ≡ u → IsOfProgram refused_here.0.program (Some u) → (a.told ≡ true → FindsUnopened refused_here.0.program (Some u) refused_here.0.part_read r.calm) → FailsOpening (Some u) refused_here.0.part_read r.calm → (p : Program) × (d : ℕ) × FindsFault a b p d
-  find_disk is (d, unopened.Disk) e below opens f = (refused_here.0.program, d, record {
-    rose = rose_here d f.0;
-    is_device = below;
-    accepted = accepted_here;
-    before = λ t. before_on refused_here.0.program d a refused_here.0.part_read (same_files t) (opens t).0;
-  })
+  find_disk is (d, unopened.Disk) e below opens f = (
+    refused_here.0.program,
+    d,
+    record {
+      rose = rose_here d f.0;
+      is_device = below;
+      accepted = accepted_here;
+      before = λ t. before_on refused_here.0.program d a refused_here.0.part_read (same_files t) (opens t).0;
+    },
+  )
   find_disk is (d, unopened.Memory) e below opens f = let no : status.Memory ≡ status.Disk = sym (ap (λ x. status_at (unopened_end refused_here.0.program x)) e) ∙ refused_here.1 ∙ is in absurd (cc)
   find_disk is (d, unopened.BadStore file at) e below opens f = let no : status.Store ≡ status.Disk = sym (ap (λ x. status_at (unopened_end refused_here.0.program x)) e) ∙ refused_here.1 ∙ is in absurd (cc)
   find_disk is (d, unopened.OtherProgram) e below opens f = let no : status.OtherProgram ≡ status.Disk = sym (ap (λ x. status_at (unopened_end refused_here.0.program x)) e) ∙ refused_here.1 ∙ is in absurd (cc)
