@@ -1,5 +1,6 @@
 //! The world in memory.
-ghost use Rattle.std.specs.Prelude.{ℕ, ◌≡◌, ◌≤◌, ◌<◌, length};
+ghost use Rattle.std.specs.Prelude.{ℕ, ◌≡◌, ◌==◌, ◌≤◌, ◌<◌, length};
+ghost use Rattle.std.specs.List.{list_all};
 
 use crate::calls::Calls;
 use crate::disks::Disks;
@@ -31,15 +32,22 @@ pub struct MemoryWorld {
     ghost counted: { length disk_faults.items ≡ 256 },
 }
 
+/// Whether each of these counts is 0.
+fn are_zero(counts: &[u64]) -> bool
+    ensures { result ≡ list_all (λ n. n == 0) counts.now }
+{
+    counts.iter().all(|count| *count == 0)
+}
+
 impl MemoryWorld {
-    ghost use Rattle.std.specs.Prelude.{◌+◌, ◌^◌, ◌⊎◌, ◌++◌, min, IfOk, OnOk, OnErr, IfSome, IsNone, ◌↔◌, take};
+    ghost use Rattle.std.specs.Prelude.{true, ◌+◌, ◌^◌, ◌⊎◌, ◌++◌, min, IfOk, OnOk, OnErr, IfSome, IsNone, ◌↔◌, take};
     ghost use Rattle.re_outside.specs.Image.{written};
     ghost use Rattle.re_outside.specs.Listed.{plain};
     ghost use Rattle.re_outside.specs.Trace.{acts_of, IsJointImage};
-    ghost use Rattle.re_outside.specs.Outside.{Input, Output, Disk, IsOutput};
+    ghost use Rattle.re_outside.specs.Outside.{FaultKind, Input, Output, Disk, IsOutput};
     ghost use Rattle.re_fakes.specs.Files.{file_in};
     ghost use Rattle.re_fakes.specs.Stops.{IsChosen};
-    ghost use Rattle.re_fakes.specs.World.{new_world, next_entry, counted as with_call, faulted, short, stepped, given, output_failure, file_failure, reads_of, moment_at};
+    ghost use Rattle.re_fakes.specs.World.{faults_of, new_world, next_entry, counted as with_call, faulted, short, stepped, given, output_failure, file_failure, reads_of, moment_at};
     ghost use Rattle.re_fakes.specs.Told.{world_of};
 
     /// A world with this input and these files, in which the calls of the list fail.
@@ -87,6 +95,13 @@ impl MemoryWorld {
         ensures { result ≡ (world_of self.now).shorts }
     {
         self.shorts
+    }
+
+    /// Whether no call failed: each count of faults is 0.
+    pub fn is_faultless(&self) -> bool
+        ensures { result ≡ true ↔ ((kind : FaultKind) → faults_of (world_of self.now) kind ≡ 0) }
+    {
+        self.input_faults == 0 && self.output_faults == 0 && are_zero(self.disk_faults.as_slice())
     }
 
     /// What a choice takes to be left of the files by a stop after the first `step` steps.

@@ -44,6 +44,7 @@ fn gives_its_input_and_keeps_what_is_said(rt: HostRuntime) -> Result<(), TestFai
     assert_eq!(rt; world.trace().len(), 1);
     assert!(rt; matches!(world.trace().get(0), Some(Step::Say { .. })));
     assert_eq!(rt; world.shorts(), 0);
+    assert!(rt; world.is_faultless());
     Ok(())
 }
 
@@ -111,6 +112,7 @@ fn fails_the_calls_of_its_list(rt: HostRuntime) -> Result<(), TestFail> {
     assert_eq!(rt; failed, 7);
     assert_eq!(rt; world.trace().len(), 15);
     assert_eq!(rt; world.shorts(), 0);
+    assert!(rt; !world.is_faultless());
     Ok(())
 }
 
