@@ -23,9 +23,9 @@ use Rattle.re_tool.specs.Answers.{Outcomes, Session, behind_part, ending, ending
 use Rattle.re_tool.specs.Endings.{Ending, Done, RefusedProgram, InputFault, NoMemory, InputTooLong, status_at}
 use Rattle.re_tool.specs.Causes.{Completes, EndCause, FindsFault, FindsStore, InputCause, IsAcceptedPart, IsRead, IsRefusedPart, IsUnlessEnded, OutputCause, ProgramCause, TooLongCause, TooMuch}
 use Rattle.re_tool.specs.Lines.{split, ended}
-use Rattle.re_tool.specs.Part.{Part, divided, part_of, part_by, is_over}
+use Rattle.re_tool.specs.Part.{HasSeparator, Part, divided, part_of, part_by, is_over}
 use Rattle.re_tool.specs.Reads.{limit}
-use Rattle.re_tool.specs.Session.{Closes, EndsAs, Finishes, Halts, HasSeparator, Refuses, Runs, is_output, one_if}
+use Rattle.re_tool.specs.Session.{Closes, EndsAs, Finishes, Halts, Refuses, Runs, is_output, one_if}
 use Rattle.re_outside.proofs.Does.{breaks_does}
 use Rattle.re_tool.proofs.Endings.{content_on}
 use Rattle.re_tool.proofs.Ends.{Ran, ran_breaks, ran_goes, ran_says}
@@ -371,7 +371,7 @@ pub record IsRefusedOpening (j : Job) (v : Verdict) (u : Option (ℕ × OpenFaul
 
 refused_opening : (j : Job) (v : Verdict) (u : Option (ℕ × OpenFault)) (session : Option Session) (lines unanswered : List DoneLine) (a b : Seen) → Course j v u session lines unanswered a b → (u ≡ None) ⊎ IsRefusedOpening j v u a b
 refused_opening j v u session lines unanswered a b (reads lacks opens did un does) = inl opens
-refused_opening j v u session lines unanswered a b (opens_none {p} {u = f} {read} {part_read = m} run accepted is lacks did un does opening) = inr (record { runs = run; program = p; fault = f; accepted = accepted; is = is; read = read; part_read = m; reads_part = does; opening = opening })
+refused_opening j v u session lines unanswered a b (opens_none {p} {u = f} {read} {part_read = m} run accepted is lacks did un does whole opening) = inr (record { runs = run; program = p; fault = f; accepted = accepted; is = is; read = read; part_read = m; reads_part = does; opening = opening })
 refused_opening j v u session lines unanswered a b (serves run accepted opens is spelled ordered) = inl opens
 
 -- such a status comes of a device that doesn't open alone

@@ -25,9 +25,9 @@ use Rattle.re_tool.specs.Answers.{Outcomes, Session, answers_text, done, ending,
 use Rattle.re_tool.specs.Clipped.{Clipped}
 use Rattle.re_tool.specs.Endings.{Ending, Done, InputFault, NoMemory, InputTooLong, status_at, last_line}
 use Rattle.re_tool.specs.Lines.{split, ended, without_return}
-use Rattle.re_tool.specs.Part.{Part, part_of, last_lines}
+use Rattle.re_tool.specs.Part.{HasSeparator, Part, part_of, last_lines}
 use Rattle.re_tool.specs.Reads.{Reads, ReadFails, Takes, limit}
-use Rattle.re_tool.specs.Session.{Closes, EndsAs, FilesOpen, Finishes, HasSeparator, MayBegin, OnlyLastLine, ReadFar, Runs, Tells, Unanswered, is_output, lines_of, one_if, part_lines}
+use Rattle.re_tool.specs.Session.{Closes, EndsAs, FilesOpen, Finishes, MayBegin, OnlyLastLine, ReadFar, Runs, Tells, Unanswered, is_output, lines_of, one_if, part_lines}
 use Rattle.re_tool.specs.Verdict.{Verdict, Accepted}
 use Rattle.re_tool.specs.declared.reader.Reader.{Reader}
 use Rattle.re_tool.specs.declared.status.Status.{Status}

@@ -141,7 +141,7 @@ calm_ordered a b p lines unanswered last o =
 
 calm_course : (a b : Seen) (j : Job) (v : Verdict) (u : Option (ℕ × OpenFault)) (session : Option Session) (lines unanswered : List DoneLine) → Course j v u session lines unanswered a b → Calm a b
 calm_course a b j v u session lines unanswered (reads lacks opens did un does) = calm_on a a b (calm_nil a a refl) _ _ (does_goes a b _ [] does)
-calm_course a b j v u session lines unanswered (opens_none {p} {u = f} {read} {part_read = m} run accepted is lacks did un does opening) = calm_on a m b (calm_on a a m (calm_nil a a refl) _ _ (does_goes a m read [] does)) _ _ opening.goes
+calm_course a b j v u session lines unanswered (opens_none {p} {u = f} {read} {part_read = m} run accepted is lacks did un does whole opening) = calm_on a m b (calm_on a a m (calm_nil a a refl) _ _ (does_goes a m read [] does)) _ _ opening.goes
 calm_course a b j v u session lines unanswered (serves {s} {last} run accepted opens is spelled ordered) = calm_ordered a b s.program lines unanswered last ordered
 
 calm_steps : (old new : Seen) (c : Calm old new) → AreCalm c.goes.does.steps

@@ -17,3 +17,5 @@ pub mod Starting
 pub mod Stopping
 pub mod Unopened
 pub mod Settling
+mod Relaying
+mod WholeParts

@@ -5,7 +5,7 @@ use Rattle.re_outside.specs.Outside.{Seen, Does, none}
 use Rattle.re_session.specs.Acts.{Act, Acts, DoneLine}
 use Rattle.re_session.specs.Serving.{DoesLine, Serves, Whole}
 use Rattle.re_terms.specs.declared.program.Program.{Program}
-use Rattle.re_tool.specs.Acts.{OpensAs, Ordered}
+use Rattle.re_tool.specs.Acts.{OpensAs, Ordered, ReadsPart}
 use Rattle.re_world.specs.State.{WorldState}
 
 -- what was done of a line
@@ -21,6 +21,7 @@ pub record Reached (a b : Seen) (p : Program) (lines : List DoneLine) (now : Wor
   pub part : List ℕ
   pub part_read : Seen
   pub reads_part : Does a part_read part [] none
+  pub is_whole : ReadsPart part part_read
   pub devices : WorldState
   pub opened : Seen
   pub opens : OpensAs p devices part_read opened
@@ -37,6 +38,7 @@ ordered_all a b p lines now r = record {
   part = r.part;
   part_read = r.part_read;
   reads_part = r.reads_part;
+  is_whole = r.is_whole;
   devices = r.devices;
   opened = r.opened;
   opens = r.opens;
@@ -57,6 +59,7 @@ ordered_but_one a b c p lines l now last r d = record {
   part = r.part;
   part_read = r.part_read;
   reads_part = r.reads_part;
+  is_whole = r.is_whole;
   devices = r.devices;
   opened = r.opened;
   opens = r.opens;

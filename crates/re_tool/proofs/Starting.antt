@@ -17,11 +17,11 @@ use Rattle.re_tool.specs.Answers.{Outcomes, Session, answers_text, checked_text,
 use Rattle.re_tool.specs.Clipped.{Clipped}
 use Rattle.re_tool.specs.Endings.{Done, RefusedProgram, InputFault, NoMemory, InputTooLong, status_at, last_line}
 use Rattle.re_tool.specs.Lines.{split, ended, without_return}
-use Rattle.re_tool.specs.Part.{Part, divided, part_of, part_in}
+use Rattle.re_tool.specs.Part.{HasSeparator, Part, divided, part_of, part_in}
 use Rattle.re_tool.specs.PartReading.{Divides, ReadsAll, PartFails, PartTooLong, PartStops, PartIs}
 use Rattle.re_tool.specs.Reads.{limit}
 use Rattle.re_tool.specs.Serving.{Starts}
-use Rattle.re_tool.specs.Session.{FilesOpen, Finishes, HasSeparator, ReadFar, Runs, Unanswered, lines_of}
+use Rattle.re_tool.specs.Session.{FilesOpen, Finishes, ReadFar, Runs, Unanswered, lines_of}
 use Rattle.re_tool.specs.Verdict.{Verdict, Unknown, Rejected, Accepted, Decides, IsJudged}
 use Rattle.re_tool.specs.declared.faults.Refusal.{Refusal}
 use Rattle.re_tool.specs.declared.reader.Reader.{Reader}
@@ -229,6 +229,7 @@ module _ (a b : Seen) (r : Reader) (text : Clipped) (d : Divides r text a b) whe
     few = d.few;
     part_read = b;
     does = d.does;
+    is_whole = (divided_short, inl has_separator);
     opens = opens;
   }
 
@@ -317,7 +318,7 @@ module _ (a b c : Seen) (p : Program) (u : ℕ × OpenFault) (w : IsWhole a b (A
         unanswered = [];
         unsaid = unopened_unsaid p u;
         calm = c;
-        course = opens_none refl refl refl is refl refl w.does o;
+        course = opens_none refl refl refl is refl refl w.does (w.few, w.far) o;
         halts = refl;
         at_input = λ h. absurd (cc);
         ending_is = ap (λ x. ending_in job.Run (Accepted p) (Some u) x (reading_end w.read false)) w.is_part;
@@ -344,7 +345,7 @@ module _ (a b c : Seen) (p : Program) (u : ℕ × OpenFault) (w : IsWhole a b (A
         unanswered = [];
         unsaid = omega arith;
         calm = c;
-        course = opens_none refl refl refl is refl refl w.does o;
+        course = opens_none refl refl refl is refl refl w.does (w.few, w.far) o;
         halts = refl;
         at_input = λ h. absurd (cc);
         ending_is = refl;
@@ -366,7 +367,7 @@ pub all_done : (a b c : Seen) (r : Reader) (text : Clipped) (p : Program) (devic
 all_done a b c r text p devices d is opens =
     let program = kept_verdict (Accepted p) text d.part d.keeps is in
     let session : session_of job.Run (Accepted p) None d.read false ≡ with_lines p [] = session_at p _ _ _ d.is_part in
-    let reached : Reached a c p [] devices = record { part = d.read; part_read = b; reads_part = d.does; devices = devices; opened = c; opens = opens; mid = c; acts = (refl, refl); ahead = []; reads = does-nil c } in
+    let reached : Reached a c p [] devices = record { part = d.read; part_read = b; reads_part = d.does; is_whole = (d.few, inr d.end); devices = devices; opened = c; opens = opens; mid = c; acts = (refl, refl); ahead = []; reads = does-nil c } in
     let ran = ran_goes a c d.read [] (opening_goes a b c d.read d.does opens.opening.goes) in
     let end = runs_on p (part_of d.read false) (reading_end d.read false) ∙ ends_done d.read d.few in
     record {

@@ -306,7 +306,7 @@ module _ (j : Job) (old new : Seen) (s : Status) (r : Runs j old new s) where
 
   by_session : (x : Session) (w : World) → has ≡ Some x → Begins x.program w old → Course j r.verdict r.outcomes.unopened has r.lines r.unanswered old r.calm → SurvivesLines x.program w r.lines (past_in 0 old) (past_in 0 r.calm) (past_in 0 new)
   by_session x w is begins (reads lacks opens did un does) = let no : ◌≡◌ {A = Option Session} (Some x) None = sym is ∙ lacks in absurd (cc)
-  by_session x w is begins (opens_none run accepted fault lacks did un does opening) = let no : ◌≡◌ {A = Option Session} (Some x) None = sym is ∙ lacks in absurd (cc)
+  by_session x w is begins (opens_none run accepted fault lacks did un does whole opening) = let no : ◌≡◌ {A = Option Session} (Some x) None = sym is ∙ lacks in absurd (cc)
   by_session x w is begins (serves {s = y} {last = last} run accepted opens own spelled ordered) =
       let same : y ≡ x = one_session x y (sym is ∙ own) in
       let o : Ordered old r.calm x.program r.lines r.unanswered last = subst (λ (z : Session). Ordered old r.calm z.program r.lines r.unanswered last) same ordered in
@@ -317,7 +317,7 @@ module _ (j : Job) (old new : Seen) (s : Status) (r : Runs j old new s) where
 
   fares_by : (x : Session) (w : World) → has ≡ Some x → Begins x.program w old → Course j r.verdict r.outcomes.unopened has r.lines r.unanswered old r.calm → Fares r.lines old new
   fares_by x w is begins (reads lacks opens did un does) = let no : ◌≡◌ {A = Option Session} (Some x) None = sym is ∙ lacks in absurd (cc)
-  fares_by x w is begins (opens_none run accepted fault lacks did un does opening) = let no : ◌≡◌ {A = Option Session} (Some x) None = sym is ∙ lacks in absurd (cc)
+  fares_by x w is begins (opens_none run accepted fault lacks did un does whole opening) = let no : ◌≡◌ {A = Option Session} (Some x) None = sym is ∙ lacks in absurd (cc)
   fares_by x w is begins (serves {s = y} {last = last} run accepted opens own spelled ordered) =
       let same : y ≡ x = one_session x y (sym is ∙ own) in
       let o : Ordered old r.calm x.program r.lines r.unanswered last = subst (λ (z : Session). Ordered old r.calm z.program r.lines r.unanswered last) same ordered in
@@ -326,13 +326,13 @@ module _ (j : Job) (old new : Seen) (s : Status) (r : Runs j old new s) where
   by_opening : (p : Program) (w : World) (u : ℕ × OpenFault) → r.verdict ≡ Accepted p → r.outcomes.unopened ≡ Some u → Begins p w old → Course j r.verdict r.outcomes.unopened has r.lines r.unanswered old r.calm → Throughout (past_in 0 old) (past_in 0 new) (LeavesStart p w)
   by_opening p w u accepted is begins (reads lacks opens did un does) = let no : ◌≡◌ {A = Option (ℕ × OpenFault)} (Some u) None = sym is ∙ opens in absurd (cc)
   by_opening p w u accepted is begins (serves run verdict opens own spelled ordered) = let no : ◌≡◌ {A = Option (ℕ × OpenFault)} (Some u) None = sym is ∙ opens in absurd (cc)
-  by_opening p w u accepted is begins (opens_none {p = q} {u = v} {read = read} {part_read = m} run verdict fault lacks did un does opening) =
+  by_opening p w u accepted is begins (opens_none {p = q} {u = v} {read = read} {part_read = m} run verdict fault lacks did un does whole opening) =
       let same : q ≡ p = one_program q p (sym verdict ∙ accepted) in
       unopened_run old r.calm r.halted new p w v read m does (subst (λ x. IsOpening x (Some v) m r.calm) same opening) begins r.outcomes.input_failed r.last s r.halts r.closes
 
   by_reading : has ≡ None → r.outcomes.unopened ≡ None → old.told ≡ true → Course j r.verdict r.outcomes.unopened has r.lines r.unanswered old r.calm → Throughout (past_in 0 old) (past_in 0 new) (λ now. (files : ℕ → ℕ → List ℕ) → IsJointImage now files → IsJointImage (past_in 0 old) files)
   by_reading none opened told (reads {read = read} lacks opens did un does) = still_run old r.calm r.halted new read r.outcomes.input_failed r.last s told does r.halts r.closes
-  by_reading none opened told (opens_none {u = v} run verdict fault lacks did un does opening) = let no : ◌≡◌ {A = Option (ℕ × OpenFault)} (Some v) None = sym fault ∙ opened in absurd (cc)
+  by_reading none opened told (opens_none {u = v} run verdict fault lacks did un does whole opening) = let no : ◌≡◌ {A = Option (ℕ × OpenFault)} (Some v) None = sym fault ∙ opened in absurd (cc)
   by_reading none opened told (serves {s = y} run verdict opens own spelled ordered) = let no : ◌≡◌ {A = Option Session} (Some y) None = sym own ∙ none in absurd (cc)
 
   -- a run survives a stop at any of its moments

@@ -134,7 +134,7 @@ module _ (a b : Seen) (s : Status) (r : Runs job.Run a b s) (p : Program) (d : �
   by_course : r.verdict ≡ Accepted p → Course job.Run r.verdict r.outcomes.unopened (done job.Run r.verdict r.read r.outcomes) r.lines r.unanswered a r.calm → IsUnlessEnded wanted s
   by_course accepted (reads lacks opens did un does) =
       absurd (has_session r.outcomes.stopped p part ((λ i. done_by r.outcomes.stopped (session_in (sym accepted i) (sym opens i) (sym is_part i))) ∙ lacks))
-  by_course accepted (opens_none {p = q} {u = u} {read = read} {part_read = m} run verdict is lacks did un does opening) =
+  by_course accepted (opens_none {p = q} {u = u} {read = read} {part_read = m} run verdict is lacks did un does whole opening) =
       let same : q ≡ p = one_program q p (sym verdict ∙ accepted) in
       let o : IsOpening p (Some u) m r.calm = subst (λ x. IsOpening x (Some u) m r.calm) same opening in
       unopened_ends u.0 u.1 accepted is (ends_for p o.is_program d below a m r.calm (λ e f. content_on a m read [] none told does e f) before stored wanted refused has (within m read does) u.0 u.1 (o.finds (does.moves.told ∙ told)) o.failed)

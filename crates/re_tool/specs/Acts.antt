@@ -1,11 +1,11 @@
 -- The order of a run's steps: the program part is read, the devices are opened, and then line by line.
 -- Read against: over blank files `device a; var x: int = 0;` with turn a x = 5 makes two syncs, lays the start, commits the turn, and then says ok 1.
-use Rattle.std.specs.Prelude.{ℕ, ◌≡◌, ◌<◌, ◌++◌, List, [], ◌∷◌, true, map, Option, Some, None, Result, Ok, Err, ⊤}
+use Rattle.std.specs.Prelude.{ℕ, ◌≡◌, ◌<◌, ◌≤◌, ◌⊎◌, ◌++◌, length, List, [], ◌∷◌, true, map, Option, Some, None, Result, Ok, Err, ⊤}
 use Rattle.re_compact.specs.declared.fault.OpenFault.{OpenFault}
 use Rattle.re_compact.specs.declared.fault.OpenFault.TheVariants as unopened
 use Rattle.re_device.specs.Device.{DeviceState}
 use Rattle.re_outside.specs.Moment.{Throughout}
-use Rattle.re_outside.specs.Outside.{Does, Rose, Seen, content_in, none}
+use Rattle.re_outside.specs.Outside.{Does, IsAtEnd, Rose, Seen, content_in, none}
 use Rattle.re_outside.specs.Port.{disk_faults, past_in}
 use Rattle.re_outside.specs.Trace.{IsJointImage}
 use Rattle.re_record.specs.Stores as stores
@@ -18,6 +18,8 @@ use Rattle.re_terms.specs.DeviceWorlds.{World}
 use Rattle.re_terms.specs.Programs.{IsProgram}
 use Rattle.re_terms.specs.declared.program.Program.{Program}
 use Rattle.re_tool.specs.Answers.{Session}
+use Rattle.re_tool.specs.Part.{HasSeparator}
+use Rattle.re_tool.specs.Reads.{limit}
 use Rattle.re_tool.specs.Verdict.{Accepted, Verdict}
 use Rattle.re_tool.specs.declared.words.Job.{Job}
 use Rattle.re_tool.specs.declared.words.Job.TheVariants as job
@@ -25,6 +27,10 @@ use Rattle.re_world.specs.Images.{Restores}
 use Rattle.re_world.specs.Opening.{HasAllOpeningSteps, HasOpeningCause, IsOpened, OpenBefore}
 use Rattle.re_world.specs.Standing.{IsWorldOf}
 use Rattle.re_world.specs.State.{WorldState, device_in}
+
+-- the separator or the end was read, and no more than the limit
+abbrev pub ReadsPart : List ℕ → Seen → Type 0
+ReadsPart read new = (length read ≤ limit) × (HasSeparator read ⊎ IsAtEnd new)
 
 -- ---- opening
 
@@ -89,6 +95,7 @@ pub record Ordered (old new : Seen) (p : Program) (lines unanswered : List DoneL
   pub part : List ℕ
   pub part_read : Seen
   pub reads_part : Does old part_read part [] none
+  pub is_whole : ReadsPart part part_read
   -- the devices
   pub devices : WorldState
   pub opened : Seen
@@ -107,7 +114,7 @@ pub record Ordered (old new : Seen) (p : Program) (lines unanswered : List DoneL
 pub data Course (j : Job) (v : Verdict) (unopened : Option (ℕ × OpenFault)) (session : Option Session) (lines unanswered : List DoneLine) (old new : Seen) : Type 0 where
   -- some of the input is read, and no device is opened
   reads : {read : List ℕ} → session ≡ None → unopened ≡ None → lines ≡ [] → unanswered ≡ [] → Does old new read [] none → Course j v unopened session lines unanswered old new
-  -- behind the program part a device doesn't open
-  opens_none : {p : Program} {u : ℕ × OpenFault} {read : List ℕ} {part_read : Seen} → j ≡ job.Run → v ≡ Accepted p → unopened ≡ Some u → session ≡ None → lines ≡ [] → unanswered ≡ [] → Does old part_read read [] none → IsOpening p (Some u) part_read new → Course j v unopened session lines unanswered old new
+  -- behind the program part, which was read whole, a device doesn't open
+  opens_none : {p : Program} {u : ℕ × OpenFault} {read : List ℕ} {part_read : Seen} → j ≡ job.Run → v ≡ Accepted p → unopened ≡ Some u → session ≡ None → lines ≡ [] → unanswered ≡ [] → Does old part_read read [] none → ReadsPart read part_read → IsOpening p (Some u) part_read new → Course j v unopened session lines unanswered old new
   -- the devices are opened, and the session's lines are done
   serves : {s : Session} {last : WorldState} → j ≡ job.Run → v ≡ Accepted s.program → unopened ≡ None → session ≡ Some s → s.lines ≡ map (λ (l : DoneLine). l.line) lines → Ordered old new s.program lines unanswered last → Course j v unopened session lines unanswered old new

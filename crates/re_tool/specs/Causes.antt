@@ -14,9 +14,9 @@ use Rattle.re_tool.specs.declared.faults.Refusal.{Refusal}
 use Rattle.re_tool.specs.declared.status.Status.{Status}
 use Rattle.re_tool.specs.declared.status.Status.TheVariants as status
 use Rattle.re_tool.specs.Lines.{split, ended}
-use Rattle.re_tool.specs.Part.{Part, divided, part_of}
+use Rattle.re_tool.specs.Part.{HasSeparator, Part, divided, part_of}
 use Rattle.re_tool.specs.Reads.{limit}
-use Rattle.re_tool.specs.Session.{HasSeparator, is_output, one_if}
+use Rattle.re_tool.specs.Session.{is_output, one_if}
 use Rattle.re_tool.specs.Verdict.{Accepted, HasVerdict, Rejected}
 
 -- it is this status, or want of memory or of output came in its place

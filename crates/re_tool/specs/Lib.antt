@@ -12,6 +12,7 @@ pub mod Part
 pub mod PartReading
 pub mod Reads
 pub mod Refusals
+pub mod Relay
 pub mod Serving
 pub mod Session
 pub mod Status

@@ -1,6 +1,6 @@
 -- The program part of an input, and the lines behind it.
 -- Read against: `device a;` LF `---` LF LF LF has the part `device a;` LF and the lines '', '' and, at the end, ''.
-use Rattle.std.specs.Prelude.{ℕ, ◌≡◌, true, false, List, [], ◌∷◌, ◌++◌, Bool, ◌||◌, Option, Some, None, option_map, if◌then◌else◌, map, take, length, nat_lt, codes}
+use Rattle.std.specs.Prelude.{ℕ, ◌≡◌, true, false, List, [], ◌∷◌, ◌++◌, Bool, ◌||◌, Option, Some, None, IsSome, option_map, if◌then◌else◌, map, take, length, nat_lt, codes}
 use Rattle.std.specs.List.{flat_map}
 use Rattle.std.specs.Str.{bytes_eq}
 use Rattle.re_tool.specs.Lines.{split, ended, without_return}
@@ -19,6 +19,10 @@ is_separator line = bytes_eq line (codes "---")
 abbrev pub divided : List (List ℕ) → Option (List (List ℕ) × List (List ℕ))
 divided [] = None
 divided (line ∷ lines) = if is_separator (without_return line) then Some ([], lines) else option_map (λ p. (line ∷ p.0, p.1)) (divided lines)
+
+-- a whole line that ends the program part was read
+abbrev pub HasSeparator : List ℕ → Type 0
+HasSeparator read = IsSome (divided (split read).0)
 
 -- none of these lines is a separator
 abbrev pub Undivided : List (List ℕ) → Type 0

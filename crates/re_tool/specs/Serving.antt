@@ -3,7 +3,7 @@ use Rattle.std.specs.Prelude.{ℕ, ◌≡◌, ◌≤◌, List, [], ◌++◌, Som
 use Rattle.std.specs.List.{flat_map}
 use Rattle.re_outside.specs.Outside.{Does, Seen, none}
 use Rattle.re_terms.specs.declared.program.Program.{Program}
-use Rattle.re_tool.specs.Acts.{OpensAs}
+use Rattle.re_tool.specs.Acts.{OpensAs, ReadsPart}
 use Rattle.re_tool.specs.Lines.{ArePlain, ended}
 use Rattle.re_tool.specs.Part.{divided}
 use Rattle.re_tool.specs.Reads.{limit}
@@ -24,4 +24,5 @@ pub record Starts (a b : Seen) (p : Program) (r : Reader) (devices : WorldState)
   pub few : r.taken ≤ limit
   pub part_read : Seen
   pub does : Does a part_read read [] none
+  pub is_whole : ReadsPart read part_read
   pub opens : OpensAs p devices part_read b

@@ -1,5 +1,5 @@
 -- What a whole run does.
-use Rattle.std.specs.Prelude.{ℕ, ◌≡◌, ◌≤◌, ◌<◌, ◌+◌, ◌++◌, ◌⊎◌, length, List, [], Bool, true, false, map, Option, Some, None, IsSome}
+use Rattle.std.specs.Prelude.{ℕ, ◌≡◌, ◌≤◌, ◌<◌, ◌+◌, ◌++◌, ◌⊎◌, length, List, [], Bool, true, false, map, Option, Some, None}
 use Rattle.re_outside.specs.Outside.{Breaks, Does, DoesWith, Fails, Faults, Input, IsAtEnd, Output, Seen, content_in, input_fault, none}
 use Rattle.re_outside.specs.declared.step.Call.TheVariants as call
 use Rattle.re_outside.specs.declared.step.Step.{Step}
@@ -9,11 +9,10 @@ use Rattle.re_session.specs.LineAnswers.{lines_after}
 use Rattle.re_terms.specs.Admission.{device_count}
 use Rattle.re_terms.specs.DeviceWorlds.{Outcome, World, recovered}
 use Rattle.re_terms.specs.declared.program.Program.{Program}
-use Rattle.re_tool.specs.Acts.{Course}
+use Rattle.re_tool.specs.Acts.{Course, ReadsPart}
 use Rattle.re_tool.specs.Answers.{Outcomes, Session, answers, done, ending}
 use Rattle.re_tool.specs.Endings.{BadWords, Ending, InputFault, NoMemory, last_line, status_at}
-use Rattle.re_tool.specs.Lines.{split}
-use Rattle.re_tool.specs.Part.{Part, divided, part_of}
+use Rattle.re_tool.specs.Part.{Part, part_of}
 use Rattle.re_tool.specs.Reads.{limit}
 use Rattle.re_tool.specs.Verdict.{IsJudged, Verdict}
 use Rattle.re_tool.specs.declared.status.Status.{Status}
@@ -57,10 +56,6 @@ Unanswered status.Output lines = length lines ≤ 1
 Unanswered status.Memory lines = length lines ≤ 1
 Unanswered s lines = lines ≡ []
 
--- a whole line that ends the program part was read
-abbrev pub HasSeparator : List ℕ → Type 0
-HasSeparator read = IsSome (divided (split read).0)
-
 abbrev pub lines_of : Option Session → List (List ℕ)
 lines_of None = []
 lines_of (Some s) = s.lines
@@ -72,10 +67,6 @@ part_lines (Some part) = part.lines
 -- no line was done before it was complete: there are as many whole lines behind the separator
 abbrev pub AreComplete : Job → Verdict → List ℕ → Outcomes → Type 0
 AreComplete j v read o = length (lines_of (done j v read o)) ≤ length (part_lines (part_of read true))
-
--- the separator or the end was read, and no more than the limit
-abbrev pub ReadsPart : List ℕ → Seen → Type 0
-ReadsPart read new = (length read ≤ limit) × (HasSeparator read ⊎ IsAtEnd new)
 
 -- where the status is 0 the input was read to its end, and by `check` to the separator or the end
 abbrev pub ReadsWhole : Job → List ℕ → Seen → Type 0

@@ -10,11 +10,13 @@ mod opening;
 mod part;
 mod reader;
 mod reading;
+pub mod relays;
 mod running;
 mod status;
 mod top;
 mod words;
 
+pub use relays::{Leg, Relayed, relay};
 pub use running::session;
 pub use status::Status;
 pub use top::tool;

@@ -14,8 +14,12 @@ mod limits;
 #[cfg(test)]
 mod programs;
 #[cfg(test)]
+mod relays;
+#[cfg(test)]
 mod running;
 #[cfg(test)]
 mod sessions;
 #[cfg(test)]
 mod steps;
+#[cfg(test)]
+mod stops;

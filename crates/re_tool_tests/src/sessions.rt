@@ -185,7 +185,7 @@ fn lines_are_refused(rt: HostRuntime) -> Result<(), Fail> {
 }
 
 /// A program of three devices, and a session.
-const HALL: &[u8] =
+pub const HALL: &[u8] =
     b"device hall;\ndevice attic;\ndevice cellar;\nsymbol home;\nsymbol away;\nvar temp: int = 200;\nevent tick: int;\nsignal warm = temp > 300;\nsignal level = if warm then 2 else 1;\nevent edge = changed(warm);\nfold edges: int = 0 on edge do self + 1;\nfold sum: int = 0 on tick do self + arg in 2;\nfold count: int = 0 on tick do self + 1 in 2;\nsignal mean = sum / count;\ncounter visits;\nset todo: int;\nregister mode: sym = home;\nsignal alarm = warm and mode == away;\nsignal busy = size(todo) >= 2;\n---\nget hall mean\nturn hall fire tick 30\nturn hall fire tick 11, temp = 310\nget hall mean\nget hall edges\nget hall level\nget hall alarm\nturn attic write mode away, insert todo 4, insert todo 9\nturn cellar insert todo 4, add visits 3\nsend attic\nsend cellar\ndeliver 0 hall\nget hall alarm\nget hall todo\nget hall busy\nturn hall remove todo 4, add visits -1\nget hall todo\ndeliver 1 hall\nget hall todo\nget hall visits\nlazy attic add visits 10\nget attic visits\nsend attic\ncrash attic\nget attic visits\nrestart attic\nget attic visits\nturn attic add visits 1\nsend hall\ndeliver 3 attic\ndeliver 3 cellar\nget attic todo\nget cellar todo\nget attic visits\nget cellar visits\nsend attic\ndeliver 4 cellar\ndeliver 4 hall\nget cellar visits\nget hall visits\nget cellar mode\nhex 0\nhex 2\n";
 
 /// What `run` says of its session.
