@@ -1,6 +1,7 @@
 pub mod Caused
 pub mod Checks
 pub mod Clipping
+pub mod CommandLines
 pub mod Endings
 pub mod Ends
 pub mod Failing
