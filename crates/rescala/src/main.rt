@@ -7,6 +7,9 @@ ghost use Rattle.re_real.specs.Counts.{seen_of};
 ghost use Rattle.re_tool.specs.Endings.{NoMemory, last_line};
 ghost use Rattle.re_tool.specs.Session.{Finishes};
 
+#[cfg(test)]
+mod tests;
+
 use re_outside::{Gate, say_all};
 use re_real::RealWorld;
 use re_tool::{Status, tool};
