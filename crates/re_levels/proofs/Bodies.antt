@@ -24,7 +24,7 @@ use Rattle.re_eval.specs.Told.{Told, environment}
 use Rattle.re_prop.specs.Reading.{is_valued_at, is_valued_body}
 use Rattle.re_levels.specs.Seen.{Sight, body_seen, told_over}
 use Rattle.re_levels.proofs.Alike.{IsAlikeAt, bind_then, map_some, meaning-alike}
-use Rattle.re_levels.proofs.Names.{set_from, valued_from}
+use Rattle.re_levels.proofs.NameSorts.{set_from, valued_from}
 
 only_some : {A : Type 0} (b : Bool) (x : A) → is_some (only_if b x) ≡ true → b ≡ true
 only_some true x h = refl

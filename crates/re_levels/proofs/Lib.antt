@@ -1,6 +1,6 @@
 pub mod Alike
 pub mod Bodies
-pub mod Names
+pub mod NameSorts
 pub mod RankBits
 pub mod Seeing
 pub mod Unreached
