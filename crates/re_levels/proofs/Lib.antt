@@ -4,3 +4,4 @@ pub mod NameSorts
 pub mod RankBits
 pub mod Seeing
 pub mod Unreached
+pub mod Walking

@@ -15,5 +15,10 @@ pub struct Found {
 pub fn found_of(found: &[Found], id: u16) -> Option<Found>
     ensures { result ≡ find (λ f. f.id == id) found.now }
 {
-    found.iter().find(|one| one.id == id).copied()
+    for one in found {
+        if one.id == id {
+            return Some(*one);
+        }
+    }
+    None
 }

@@ -35,10 +35,11 @@ fn ranks_of(alloc: Global, order: &[u16]) -> Result<Vec<u16>, AllocError>
 }
 
 /// Puts a declaration among the readers of each of its inputs.
-fn link(readers: &mut [Seq<u16>], inputs: &[u16], id: u16) -> Result<(), AllocError>
-    requires declared { All (λ input. input < length readers.old) inputs.now }
-    ensures linked { OnOk result ((input other : ℕ) → is_among (list_at readers.new input) other
-        ≡ (is_among (list_at readers.old input) other || ((id == other) && is_among inputs.now input))) }
+fn link(readers: &mut Vec<Seq<u16>>, inputs: &[u16], id: u16) -> Result<(), AllocError>
+    requires declared { All (λ input. input < length readers.old.items) inputs.now }
+    ensures count { OnOk result (length readers.new.items ≡ length readers.old.items) }
+    ensures linked { OnOk result ((input other : ℕ) → is_among (list_at readers.new.items input) other
+        ≡ (is_among (list_at readers.old.items input) other || ((id == other) && is_among inputs.now input))) }
 {
     for input in inputs {
         let found = &mut readers[*input as usize];
