@@ -1,7 +1,9 @@
 pub mod Alike
 pub mod Bodies
+pub mod Finding
 pub mod NameSorts
 pub mod RankBits
+pub mod Ranking
 pub mod Seeing
 pub mod Unreached
 pub mod Walking
