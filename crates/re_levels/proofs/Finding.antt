@@ -16,25 +16,32 @@ use Rattle.re_terms.proofs.Ordered.{inputs-before, program-ordered}
 use Rattle.re_graph.specs.Kept.{is_among}
 use Rattle.re_graph.proofs.Own.{below-places, is_reached-none}
 use Rattle.re_levels.specs.declared.found.Found.{Found as One}
-use Rattle.re_levels.specs.Found.{effect_among, effect_of}
+use Rattle.re_levels.specs.Found.{effect_among, effect_of, seen_one}
 use Rattle.re_levels.specs.Places.{IsRanking}
 use Rattle.re_levels.specs.Seen.{Sight, body_seen, place_seen, seen}
 use Rattle.re_levels.proofs.Bodies.{IsInputAlike, body-alike}
 use Rattle.re_levels.proofs.Seeing.{All-among, seen-reached, seen-unreached}
 use Rattle.re_levels.proofs.Unreached.{inputs_of}
 
-first_of : Option One → Option One → Option One
+abbrev first_of : Option One → Option One → Option One
 first_of None other = other
 first_of (Some f) other = Some f
 
 -- one more at the end is found where none was
+find_by : (p : One → Bool) (y x : One) (here more : Option One) (b : Bool) → more ≡ first_of here (if p x then Some x else None) → (if b then Some y else more) ≡ first_of (if b then Some y else here) (if p x then Some x else None)
+find_by p y x here more true h = refl
+find_by p y x here more false h = h
+
 find_push : (p : One → Bool) (xs : List One) (x : One) → find p (xs ++ x ∷ []) ≡ first_of (find p xs) (if p x then Some x else None)
 find_push p [] x = refl
-find_push p (y ∷ xs) x = by (p y)
-  where
-    by : (b : Bool) → (if b then Some y else find p (xs ++ x ∷ [])) ≡ first_of (if b then Some y else find p xs) (if p x then Some x else None)
-    by true = refl
-    by false = find_push p xs x
+find_push p (y ∷ xs) x = find_by p y x (find p xs) (find p (xs ++ x ∷ [])) (p y) (find_push p xs x)
+
+-- what was found is what is seen of the reached declarations with ranks below a rank
+abbrev pub AreFound : Program → Sight → List ℕ → List One → ℕ → Type 0
+AreFound p s ranks found next = (id : ℕ) → find (λ f. f.id == id) found ≡ (if nat_lt (get_or ranks id 0) next && is_reached (graph_of p.decls.items) s.touched id then Some (seen_one p s id) else None)
+
+pub none_found : (p : Program) (s : Sight) (ranks : List ℕ) → AreFound p s ranks [] 0
+none_found p s ranks id = ap (λ b. if b && is_reached (graph_of p.decls.items) s.touched id then Some (seen_one p s id) else None) (sym (le-ltb (get_or ranks id 0) 0 (omega arith)))
 
 module _ (p : Program) (program : IsProgram p) (s : Sight) (order ranks : List ℕ) (ranking : IsRanking (graph_of p.decls.items) order ranks) where
   abbrev graph : List PlainNode
@@ -46,18 +53,7 @@ module _ (p : Program) (program : IsProgram p) (s : Sight) (order ranks : List �
   abbrev rank : ℕ → ℕ
   rank id = get_or ranks id 0
 
-  -- what is seen of a declaration, as it is kept
-  abbrev pub seen_one : ℕ → One
-  seen_one id = record { id = id; word = (seen p s id).word; value = (seen p s id).occurrence }
-
-  -- what was found is what is seen of the reached declarations with ranks below a rank
-  abbrev pub AreFound : List One → ℕ → Type 0
-  AreFound found next = (id : ℕ) → find (λ f. f.id == id) found ≡ (if nat_lt (rank id) next && R id then Some (seen_one id) else None)
-
-  pub none_found : AreFound [] 0
-  none_found id = ap (λ b. if b && R id then Some (seen_one id) else None) (sym (le-ltb (rank id) 0 (omega arith)))
-
-  module _ (found : List One) (next k : ℕ) (are : AreFound found next) (from : next ≤ k) (taken : ℕ) (taken_rank : rank taken ≡ k) (taken_reached : R taken ≡ true) (none_between : (id : ℕ) → id < length graph → next ≤ rank id → rank id < k → R id ≡ false) (taken_more : (i : ℕ) → i < length graph → (nat_lt (rank i) (k + 1) && R i) ≡ ((nat_lt (rank i) next && R i) || (i == taken))) where
+  module _ (found : List One) (next k : ℕ) (are : AreFound p s ranks found next) (from : next ≤ k) (taken : ℕ) (taken_rank : rank taken ≡ k) (taken_reached : R taken ≡ true) (none_between : (id : ℕ) → id < length graph → next ≤ rank id → rank id < k → R id ≡ false) (taken_more : (i : ℕ) → i < length graph → (nat_lt (rank i) (k + 1) && R i) ≡ ((nat_lt (rank i) next && R i) || (i == taken))) where
     module _ (d : Decl) (at : slice_get p.decls.items taken ≡ Some d) where
       inside : taken < length p.decls.items
       inside = slice_get_within p.decls.items taken d at
@@ -68,13 +64,13 @@ module _ (p : Program) (program : IsProgram p) (s : Sight) (order ranks : List �
       abbrev Alike : ℕ → Type 0
       Alike = IsInputAlike p s s (effect_among s.old found) F
 
-      found_on : (n : ℕ) → n < length graph → rank n < k → R n ≡ true → (b : Bool) → nat_lt (rank n) next ≡ b → find (λ f. f.id == n) found ≡ Some (seen_one n)
-      found_on n within under on true lt = are n ∙ ap (λ b. if b && R n then Some (seen_one n) else None) lt ∙ ap (λ b. if b then Some (seen_one n) else None) on
+      found_on : (n : ℕ) → n < length graph → rank n < k → R n ≡ true → (b : Bool) → nat_lt (rank n) next ≡ b → find (λ f. f.id == n) found ≡ Some (seen_one p s n)
+      found_on n within under on true lt = are n ∙ ap (λ b. if b && R n then Some (seen_one p s n) else None) lt ∙ ap (λ b. if b then Some (seen_one p s n) else None) on
       found_on n within under on false lt = absurd (let off = none_between n within (ltb-false (rank n) next lt) under in let no : true ≡ false = sym on ∙ off in cc)
 
       found_off : (n : ℕ) → R n ≡ false → (b : Bool) → nat_lt (rank n) next ≡ b → find (λ f. f.id == n) found ≡ None
-      found_off n off true lt = are n ∙ ap (λ b. if b && R n then Some (seen_one n) else None) lt ∙ ap (λ b. if b then Some (seen_one n) else None) off
-      found_off n off false lt = are n ∙ ap (λ b. if b && R n then Some (seen_one n) else None) lt
+      found_off n off true lt = are n ∙ ap (λ b. if b && R n then Some (seen_one p s n) else None) lt ∙ ap (λ b. if b then Some (seen_one p s n) else None) off
+      found_off n off false lt = are n ∙ ap (λ b. if b && R n then Some (seen_one p s n) else None) lt
 
       same_by : (n : ℕ) → n < taken → rank n < k → (b : Bool) → R n ≡ b → effect_among s.old found n ≡ F n
       same_by n lower under true on =
@@ -118,29 +114,29 @@ module _ (p : Program) (program : IsProgram p) (s : Sight) (order ranks : List �
         and_false true = refl
         and_false false = refl
 
-    found_by : (f : One) → f ≡ seen_one taken → (id : ℕ) → (id ≡ taken) ⊎ (id ≡ taken → ⊥) → find (λ g. g.id == id) (found ++ f ∷ []) ≡ (if nat_lt (rank id) (k + 1) && R id then Some (seen_one id) else None)
+    found_by : (f : One) → f ≡ seen_one p s taken → (id : ℕ) → (id ≡ taken) ⊎ (id ≡ taken → ⊥) → find (λ g. g.id == id) (found ++ f ∷ []) ≡ (if nat_lt (rank id) (k + 1) && R id then Some (seen_one p s id) else None)
     found_by f is id (inl e) =
         let own : rank id ≡ k = ap rank e ∙ taken_rank in
         let on : R id ≡ true = ap R e ∙ taken_reached in
-        let none : find (λ g. g.id == id) found ≡ None = are id ∙ ap (λ b. if b && R id then Some (seen_one id) else None) (le-ltb (rank id) next (omega (arith, own, from))) in
+        let none : find (λ g. g.id == id) found ≡ None = are id ∙ ap (λ b. if b && R id then Some (seen_one p s id) else None) (le-ltb (rank id) next (omega (arith, own, from))) in
         let here : (f.id == id) ≡ true = eq-eqb f.id id (ap (λ g. g.id) is ∙ sym e) in
         find_push (λ g. g.id == id) found f
         ∙ ap (λ o. first_of o (if f.id == id then Some f else None)) none
         ∙ ap (λ b. if b then Some f else None) here
-        ∙ ap Some (is ∙ ap seen_one (sym e))
-        ∙ sym (ap (λ b. if b && R id then Some (seen_one id) else None) (lt-ltb (rank id) (k + 1) (omega (arith, own))) ∙ ap (λ b. if b then Some (seen_one id) else None) on)
+        ∙ ap Some (is ∙ ap (seen_one p s) (sym e))
+        ∙ sym (ap (λ b. if b && R id then Some (seen_one p s id) else None) (lt-ltb (rank id) (k + 1) (omega (arith, own))) ∙ ap (λ b. if b then Some (seen_one p s id) else None) on)
     found_by f is id (inr other) =
         let away : (f.id == id) ≡ false = ne_eqb f.id id (λ e. other (sym e ∙ ap (λ g. g.id) is)) in
         find_push (λ g. g.id == id) found f
         ∙ ap (λ b. first_of (find (λ g. g.id == id) found) (if b then Some f else None)) away
         ∙ first_none (find (λ g. g.id == id) found)
         ∙ are id
-        ∙ ap (λ b. if b then Some (seen_one id) else None) (more_by id (nat_lt id (length graph)) refl other)
+        ∙ ap (λ b. if b then Some (seen_one p s id) else None) (more_by id (nat_lt id (length graph)) refl other)
       where
         first_none : (o : Option One) → first_of o None ≡ o
         first_none None = refl
         first_none (Some g) = refl
 
     -- one more is found
-    pub found_more : (f : One) → f ≡ seen_one taken → AreFound (found ++ f ∷ []) (k + 1)
+    pub found_more : (f : One) → f ≡ seen_one p s taken → AreFound p s ranks (found ++ f ∷ []) (k + 1)
     found_more f is id = found_by f is id (cases_eq id taken)

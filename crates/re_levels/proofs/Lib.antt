@@ -1,5 +1,6 @@
 pub mod Alike
 pub mod Bodies
+pub mod Counting
 pub mod Finding
 pub mod NameSorts
 pub mod RankBits

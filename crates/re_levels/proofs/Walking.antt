@@ -31,6 +31,15 @@ and_false : (b : Bool) → (b && false) ≡ false
 and_false true = refl
 and_false false = refl
 
+-- a declaration is touched, or has an input with a lower rank than this that is reached
+abbrev pub is_due_in : List PlainNode → List ℕ → List ℕ → ℕ → ℕ → Bool
+is_due_in graph touched ranks next id = is_among touched id || list_any (λ input. nat_lt (get_or ranks input 0) next && is_reached graph touched input) (inputs_at graph id)
+
+-- what is due from a rank on is in the set, and nothing else
+pub record IsDue (graph : List PlainNode) (touched order ranks : List ℕ) (dirty : Set) (next : ℕ) : Type 0 where
+  pub within : next ≤ length graph
+  pub due : (r : ℕ) → has_rank dirty r ≡ (nat_lt r (length graph) && (nat_le next r && is_due_in graph touched ranks next (get_or order r 0)))
+
 module _ (graph : List PlainNode) (touched order ranks : List ℕ) (ordered : IsOrdered graph) (ranking : IsRanking graph order ranks) where
   abbrev R : ℕ → Bool
   R = is_reached graph touched
@@ -41,14 +50,8 @@ module _ (graph : List PlainNode) (touched order ranks : List ℕ) (ordered : Is
   abbrev at : ℕ → ℕ
   at r = get_or order r 0
 
-  -- a declaration is touched, or has an input with a lower rank than this that is reached
-  abbrev pub is_due : ℕ → ℕ → Bool
-  is_due next id = is_among touched id || list_any (λ input. nat_lt (rank input) next && R input) (inputs_at graph id)
-
-  -- what is due from a rank on is in the set, and nothing else
-  pub record IsDue (dirty : Set) (next : ℕ) : Type 0 where
-    pub within : next ≤ length graph
-    pub due : (r : ℕ) → has_rank dirty r ≡ (nat_lt r (length graph) && (nat_le next r && is_due next (at r)))
+  abbrev is_due : ℕ → ℕ → Bool
+  is_due = is_due_in graph touched ranks
 
   lower_inputs : (id : ℕ) → id < length graph → All (λ input. rank input < rank id) (inputs_at graph id)
   lower_inputs id within = All-weaker (λ input. is_among (inputs_at graph id) input ≡ true) (λ input. rank input < rank id) (λ input among. ranking.later id input among) (inputs_at graph id) (All-among (inputs_at graph id))
@@ -89,7 +92,7 @@ module _ (graph : List PlainNode) (touched order ranks : List ℕ) (ordered : Is
   pub between : (next k : ℕ) → ((id : ℕ) → id < length graph → next ≤ rank id → rank id < k → is_due next id ≡ false) → Between next k
   between next k idle id within from to = between_below next k (suc (rank id)) idle id within (omega arith) from to
 
-  module _ (dirty : Set) (next : ℕ) (so_far : IsDue dirty next) where
+  module _ (dirty : Set) (next : ℕ) (so_far : IsDue graph touched order ranks dirty next) where
     -- a rank that isn't in the set isn't due
     pub idle : (id : ℕ) → id < length graph → next ≤ rank id → has_rank dirty (rank id) ≡ false → is_due next id ≡ false
     idle id within from off =
@@ -226,5 +229,5 @@ module _ (graph : List PlainNode) (touched order ranks : List ℕ) (ordered : Is
             ∙ ap (λ b. b && (nat_le (k + 1) r && is_due (k + 1) (at r))) (sym is)
 
         -- behind the one that is taken, those are due that were, and those that name it
-        pub due_next : IsDue new (k + 1)
+        pub due_next : IsDue graph touched order ranks new (k + 1)
         due_next = record { within = omega (arith, low); due = λ r. due_by_place r (nat_lt r (length graph)) refl }

@@ -1,10 +1,13 @@
 -- What was found of declarations.
 -- Read against: where 2 was found to have the word 5, and 3 has the word 7 before the entry, 2 has 5 and 3 has 7.
-use Rattle.std.specs.Prelude.{ℕ, ◌==◌, ◌||◌, Bool, true, false, List, Option, None, Some, find, slice_get}
+use Rattle.std.specs.Prelude.{ℕ, ◌==◌, ◌||◌, Bool, true, false, List, Option, None, Some, count_by, find, slice_get}
 use Rattle.std.specs.Option.{option_map_or}
 use Rattle.re_terms.specs.declared.program.Body.{Body}
 use Rattle.re_terms.specs.declared.program.Body.TheVariants as body
 use Rattle.re_terms.specs.declared.program.Decl.{Decl}
+use Rattle.re_terms.specs.declared.program.Program.{Program}
+use Rattle.re_terms.specs.Dependencies.{graph_of, reach}
+use Rattle.re_levels.specs.Seen.{Sight, seen}
 use Rattle.re_terms.specs.Propagation.{Effect, word_effect}
 use Rattle.re_eval.specs.Told.{Told}
 use Rattle.re_levels.specs.declared.found.Found.{Found as One}
@@ -30,3 +33,11 @@ has_expression b = false
 
 abbrev pub has_expression_at : List Decl → ℕ → Bool
 has_expression_at decls id = option_map_or (λ d. has_expression d.body) (slice_get decls id) false
+
+-- what is seen of a declaration, as it is kept
+abbrev pub seen_one : Program → Sight → ℕ → One
+seen_one p s id = record { id = id; word = (seen p s id).word; value = (seen p s id).occurrence }
+
+-- how many declarations with an expression are reached
+abbrev pub expressions_reached : Program → List ℕ → ℕ
+expressions_reached p touched = count_by (has_expression_at p.decls.items) (reach (graph_of p.decls.items) touched)
