@@ -8,3 +8,4 @@ pub mod Ranking
 pub mod Seeing
 pub mod Unreached
 pub mod Walking
+pub mod Ways
