@@ -1,5 +1,5 @@
 -- What a declaration has depends on what its inputs have, and on nothing else.
-use Rattle.std.proofs.Common.{◌≡◌, ◌<◌, ◌≤◌, ℕ, Bool, true, false, List, [], ◌∷◌, length, take, refl, sym, ap, subst, ◌∙◌, arith}
+use Rattle.std.proofs.Common.{◌≡◌, ◌≤◌, ℕ, Bool, true, false, List, [], ◌∷◌, length, take, refl, sym, ap, ◌∙◌, arith}
 use Rattle.std.specs.Prelude.{Option, None, Some, is_some, option_map, option_and_then, unwrap_or, slice_get}
 use Rattle.std.specs.List.{All}
 use Rattle.std.specs.Option.{option_map_or}
@@ -17,10 +17,10 @@ use Rattle.re_terms.specs.Dependencies.{expr_names, inputs}
 use Rattle.re_terms.specs.Kinds.{Place, SomeKind, Sort, agrees_with, at_event, event_kind, expr_kind, in_fold, in_signal, is_of_kind, is_start, only_if, sort_of, sorts_of, value_kind, Event}
 use Rattle.re_terms.specs.Meaning.{Environment, meaning}
 use Rattle.re_terms.specs.Programs.{IsProgram, is_replicated_body}
-use Rattle.re_terms.specs.Propagation.{Effect, change_of, either_of, filtered, no_effect, occurs, put_word, word_effect}
+use Rattle.re_terms.specs.Propagation.{Effect, change_of, either_of, filtered, occurs, put_word, word_effect}
 use Rattle.re_terms.specs.Worlds.{is_set_at}
 use Rattle.std.proofs.lemmas.Bool.{and_parts}
-use Rattle.re_eval.specs.Told.{Told, environment}
+use Rattle.re_eval.specs.Told.{environment}
 use Rattle.re_prop.specs.Reading.{is_valued_at, is_valued_body}
 use Rattle.re_levels.specs.Seen.{Sight, body_seen, told_over}
 use Rattle.re_levels.proofs.Alike.{IsAlikeAt, bind_then, map_some, meaning-alike}
@@ -96,7 +96,7 @@ module _ (p : Program) (program : IsProgram p) (id : ℕ) (d : Decl) (at : slice
           let first : Word → Word = λ value. meaning expr (environment (told_over a f) (Some value) (Some (a.old.word id))) in
           let second : Word → Word = λ value. meaning expr (environment (told_over b g) (Some value) (Some (b.old.word id))) in
           let each : first ≡ second =
-              λ i value. over_alike (in_fold arg k) (Some value) (Some (a.old.word id)) (Some (b.old.word id)) expr (agrees_some k _ agreed) (ap Some kept) named i in
+          λ i value. over_alike (in_fold arg k) (Some value) (Some (a.old.word id)) (Some (b.old.word id)) expr (agrees_some k _ agreed) (ap Some kept) named i in
           λ i. word_effect (option_map_or (each i) (fired i) (kept i)))
 
       body_case : (c : Body) → d.body ≡ c → All Alike (inputs c) → body_seen a id c f ≡ body_seen b id c g
@@ -119,7 +119,7 @@ module _ (p : Program) (program : IsProgram p) (id : ℕ) (d : Decl) (at : slice
           let first : Word → Word = λ value. meaning expr (environment (told_over a f) (Some value) None) in
           let second : Word → Word = λ value. meaning expr (environment (told_over b g) (Some value) None) in
           let each : first ≡ second =
-              λ i value. over_alike (at_event arg) (Some value) None None expr (kind_some k _ (only_some _ _ rest)) refl named i in
+          λ i value. over_alike (at_event arg) (Some value) None None expr (kind_some k _ (only_some _ _ rest)) refl named i in
           λ i. occurs (option_map (each i) (fired i)))
       body_case (body.Filter source expr) is alike =
           bind_then (event_kind sorts source) _ (kinded _ is) (λ arg found rest.
@@ -128,7 +128,7 @@ module _ (p : Program) (program : IsProgram p) (id : ℕ) (d : Decl) (at : slice
           let first : Word → Word = λ value. meaning expr (environment (told_over a f) (Some value) None) in
           let second : Word → Word = λ value. meaning expr (environment (told_over b g) (Some value) None) in
           let each : first ≡ second =
-              λ i value. over_alike (at_event arg) (Some value) None None expr (agrees_some kind.Bool _ (only_some _ _ rest)) refl named i in
+          λ i value. over_alike (at_event arg) (Some value) None None expr (agrees_some kind.Bool _ (only_some _ _ rest)) refl named i in
           λ i. occurs (option_and_then (λ value. filtered (each i value) value) (fired i)))
       body_case (body.Either left right) is alike =
           let first = (All-head Alike left (right ∷ []) alike).occurrence in

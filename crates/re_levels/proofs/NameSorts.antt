@@ -4,11 +4,9 @@ use Rattle.std.specs.Prelude.{Option, None, Some, count_by, is_some, option_map,
 use Rattle.std.specs.Option.{option_map_or}
 use Rattle.re_terms.specs.declared.program.Body.{Body}
 use Rattle.re_terms.specs.declared.program.Body.TheVariants as body
-use Rattle.re_terms.specs.declared.program.Decl.{Decl}
 use Rattle.re_terms.specs.declared.program.Program.{Program}
-use Rattle.re_terms.specs.declared.word.Kind.{Kind}
 use Rattle.re_terms.specs.declared.word.Kind.TheVariants as kind
-use Rattle.re_terms.specs.Kinds.{Sort, Device, Symbol, Value, Set, Event, agrees_with, at_event, event_kind, expr_kind, in_fold, in_signal, is_of_kind, is_start, is_symbol_sort, kind_eq, set_kind, set_kind_of, sort_of, sorts_of, value_kind, value_kind_of}
+use Rattle.re_terms.specs.Kinds.{Sort, Device, Symbol, Value, Set, Event, agrees_with, at_event, event_kind, expr_kind, in_signal, is_of_kind, is_start, is_symbol_sort, kind_eq, set_kind, set_kind_of, sort_of, sorts_of, value_kind, value_kind_of}
 use Rattle.re_terms.specs.Programs.{IsProgram}
 use Rattle.re_terms.specs.Worlds.{is_set_at, is_set_body}
 use Rattle.re_terms.proofs.DeclaredSorts.{declared, sort_kept}

@@ -1,5 +1,5 @@
 -- Sets of ranks, word by word.
-use Rattle.std.proofs.Common.{◌≡◌, ◌<◌, ◌≤◌, ◌+◌, ◌*◌, ◌/◌, ◌%◌, ◌^◌, ◌==◌, ◌⊎◌, inl, inr, ℕ, Bool, true, false, ◌&&◌, ◌||◌, max, List, length, get_or, refl, sym, ap, ◌∙◌, arith}
+use Rattle.std.proofs.Common.{◌≡◌, ◌<◌, ◌≤◌, ◌+◌, ◌*◌, ◌/◌, ◌%◌, ◌^◌, ◌==◌, ◌⊎◌, inl, inr, ℕ, Bool, true, false, ◌&&◌, ◌||◌, List, length, get_or, refl, sym, ap, ◌∙◌, arith}
 use Rattle.std.specs.Prelude.{not, bit_or, bit_and, nat_lt}
 use Rattle.std.specs.Int.{bit_at, bit_not, trailing_zeros, w64}
 use Rattle.std.proofs.Math.ListN.{set}
@@ -156,9 +156,9 @@ takes_lowest words place within count some fits none old new was is =
     let rest : rank % 64 ≡ trailing_zeros w64 word = lowest_rest words place word refl some fits none in
     let inside : rank / 64 < length words = omega arith in
     let gone : new.bits ≡ set words (rank / 64) (bit_and (get_or words (rank / 64) 0) (bit_not w64 (1 * 2 ^ (rank % 64) % 2 ^ 64))) =
-        is
-        ∙ ap (λ b. set words place (bit_and (get_or words place 0) (bit_not w64 (1 * 2 ^ b % 2 ^ 64)))) (sym rest)
-        ∙ ap (λ k. set words k (bit_and (get_or words k 0) (bit_not w64 (1 * 2 ^ (rank % 64) % 2 ^ 64)))) (sym at) in
+    is
+    ∙ ap (λ b. set words place (bit_and (get_or words place 0) (bit_not w64 (1 * 2 ^ b % 2 ^ 64)))) (sym rest)
+    ∙ ap (λ k. set words k (bit_and (get_or words k 0) (bit_not w64 (1 * 2 ^ (rank % 64) % 2 ^ 64)))) (sym at) in
     record {
       small = omega arith;
       had = ap (λ ws. has_bit ws rank) was ∙ lowest_had words place word refl some fits none;

@@ -1,7 +1,7 @@
 -- The ranks of declarations, from the order by level.
-use Rattle.std.proofs.Common.{◌≡◌, ◌<◌, ◌≤◌, ◌+◌, ◌==◌, ◌⊎◌, inl, inr, ℕ, zero, suc, Bool, true, false, ◌&&◌, ◌||◌, List, [], ◌∷◌, map, max, length, get_or, refl, sym, ap, subst, ◌∙◌, arith}
+use Rattle.std.proofs.Common.{◌≡◌, ◌<◌, ◌≤◌, ◌==◌, ◌⊎◌, inl, inr, ℕ, suc, Bool, true, false, ◌&&◌, ◌||◌, List, [], ◌∷◌, map, max, length, get_or, refl, sym, ap, subst, ◌∙◌, arith}
 use Rattle.std.specs.Prelude.{nat_eq, nat_lt}
-use Rattle.std.specs.List.{All, IsDistinct, list_any}
+use Rattle.std.specs.List.{IsDistinct, list_any}
 use Rattle.std.proofs.lemmas.Bool.{cases_eq, eq-eqb, eqb-true, ne_eqb, lt-ltb, le-ltb, ltb-true, ltb-false, both_ways}
 use Rattle.std.proofs.lemmas.List.Folds.{list_any_at}
 use Rattle.std.proofs.lemmas.Map.Keys.{IsDistinct-from_apart}
@@ -10,7 +10,6 @@ use Rattle.re_terms.specs.Dependencies.{PlainNode, inputs_at, IsOrdered, level, 
 use Rattle.re_graph.specs.Kept.{is_among, IsOrderBy, comes_before}
 use Rattle.re_graph.proofs.Own.{inputs_at-none, level-own}
 use Rattle.re_levels.specs.Places.{IsRanking}
-use Rattle.re_levels.proofs.Seeing.{any_from}
 
 eq_turned : (a b : ℕ) → (a == b) ≡ (b == a)
 eq_turned a b = by (cases_eq a b)

@@ -1,6 +1,6 @@
 -- What is seen of an entry through environments that tell of a state is what it does there.
-use Rattle.std.proofs.Common.{◌≡◌, ◌<◌, ◌≤◌, ◌==◌, ℕ, zero, suc, Bool, true, false, ◌&&◌, ◌||◌, List, [], ◌∷◌, length, refl, sym, ap, subst, ◌∙◌, arith}
-use Rattle.std.specs.Prelude.{Option, None, Some, if◌then◌else◌, nat_lt, option_map, option_and_then, slice_get, slice_index_or, unwrap_or}
+use Rattle.std.proofs.Common.{◌≡◌, ◌<◌, ◌==◌, ℕ, zero, suc, Bool, true, false, ◌&&◌, ◌||◌, List, [], ◌∷◌, length, refl, sym, ap, subst, ◌∙◌, arith}
+use Rattle.std.specs.Prelude.{Some, if◌then◌else◌, nat_lt, slice_get, slice_index_or, unwrap_or}
 use Rattle.std.specs.List.{All, list_any}
 use Rattle.std.specs.Option.{option_map_or}
 use Rattle.std.proofs.lemmas.Bool.{eq-eqb, eqb-true, lt-ltb, ltb-true, ltb-false}
@@ -12,20 +12,19 @@ use Rattle.re_terms.specs.declared.program.Body.{Body}
 use Rattle.re_terms.specs.declared.program.Body.TheVariants as body
 use Rattle.re_terms.specs.declared.program.Decl.{Decl}
 use Rattle.re_terms.specs.declared.program.Program.{Program}
-use Rattle.re_terms.specs.declared.word.Word.{Word}
-use Rattle.re_terms.specs.Cells.{cell_place, is_cell_body}
+use Rattle.re_terms.specs.Cells.{is_cell_body}
 use Rattle.re_terms.specs.Dependencies.{PlainNode, below, graph_of, inputs, inputs_at, is_reached, node_of, reach}
 use Rattle.re_terms.specs.Meaning.{meaning}
-use Rattle.re_terms.specs.Programs.{IsProgram, is_replicated, is_replicated_body}
+use Rattle.re_terms.specs.Programs.{IsProgram, is_replicated}
 use Rattle.re_terms.specs.Propagation.{Step, Effect, body_effect, effect, no_effect, place_effect, put_word, word_effect}
-use Rattle.re_terms.specs.SignalWords.{names_environment, no_word, replicated_place, signal_word}
+use Rattle.re_terms.specs.SignalWords.{names_environment, replicated_place, signal_word}
 use Rattle.re_terms.proofs.DeclaredSorts.{declared}
 use Rattle.re_terms.proofs.Ordered.{inputs-before}
 use Rattle.re_eval.specs.Told.{Told}
 use Rattle.re_graph.specs.Kept.{is_among}
-use Rattle.re_graph.proofs.Own.{below-none, below-own, below-places, is_reached-none}
+use Rattle.re_graph.proofs.Own.{below-own, below-places, is_reached-none}
 use Rattle.re_graph.proofs.Ranges.{is_among-filter}
-use Rattle.re_prop.specs.Reading.{is_valued_at, is_valued_body}
+use Rattle.re_prop.specs.Reading.{is_valued_body}
 use Rattle.re_prop.proofs.Along.{effect-own}
 use Rattle.re_prop.proofs.Before.{kept_word}
 use Rattle.re_levels.specs.Seen.{Sight, body_seen, place_seen, reached_seen, seen, sight_of}
@@ -184,10 +183,10 @@ module _ (p : Program) (program : IsProgram p) (e : Entry) (touched : List ℕ) 
     same_here =
         seen-reached p sight id d at on
         ∙ body-alike p program id d at sight (step_sight p s old new touched) (F id) (G id)
-            (ap (λ puts. put_word puts id) (sym tells.sets)) (ap (λ puts. put_word puts id) (sym tells.fires))
-            (λ valued. tells.words id (ap (λ o. option_map_or (λ d. is_valued_body d.body) o false) at ∙ valued) (needed-reached p touched id on))
-            (λ replicated valued. tells.cells id (ap (λ o. option_map_or is_replicated o false) at ∙ replicated) (ap (λ o. option_map_or (λ d. is_valued_body d.body) o false) at ∙ valued) (needed-reached p touched id on))
-            (alike_at (inputs d.body) (inputs-before p program id d at) among)
+        (ap (λ puts. put_word puts id) (sym tells.sets)) (ap (λ puts. put_word puts id) (sym tells.fires))
+        (λ valued. tells.words id (ap (λ o. option_map_or (λ d. is_valued_body d.body) o false) at ∙ valued) (needed-reached p touched id on))
+        (λ replicated valued. tells.cells id (ap (λ o. option_map_or is_replicated o false) at ∙ replicated) (ap (λ o. option_map_or (λ d. is_valued_body d.body) o false) at ∙ valued) (needed-reached p touched id on))
+        (alike_at (inputs d.body) (inputs-before p program id d at) among)
         ∙ sym (effect_case p s old new touched id d (G id) d.body at refl)
         ∙ sym (effect-own p s (length p.decls.items) id d inside at)
 

@@ -1,9 +1,9 @@
 -- A declaration that isn't reached keeps its word, and doesn't occur.
-use Rattle.std.proofs.Common.{◌≡◌, ◌<◌, ◌≤◌, ◌==◌, ◌⊎◌, inl, inr, ℕ, zero, suc, Bool, true, false, ◌||◌, List, [], ◌∷◌, length, refl, sym, ap, subst, ◌∙◌, arith}
+use Rattle.std.proofs.Common.{◌≡◌, ◌<◌, ◌≤◌, ℕ, zero, suc, Bool, true, false, ◌||◌, List, [], ◌∷◌, length, refl, sym, ap, subst, ◌∙◌, arith}
 use Rattle.std.specs.Prelude.{Option, None, Some, if◌then◌else◌, nat_lt, option_map, option_and_then, slice_get, slice_index_or, unwrap_or}
 use Rattle.std.specs.List.{All, list_any}
 use Rattle.std.specs.Option.{option_map_or}
-use Rattle.std.proofs.lemmas.Bool.{cases_eq, ltb-true, ltb-false}
+use Rattle.std.proofs.lemmas.Bool.{ltb-true, ltb-false}
 use Rattle.std.proofs.lemmas.List.{length-map}
 use Rattle.std.proofs.lemmas.List.Elements.{All-nil, All-cons, All-head, All-tail, All-weaker}
 use Rattle.std.proofs.lemmas.Option.{slice_get-map, slice_get_within}
@@ -15,10 +15,10 @@ use Rattle.re_terms.specs.declared.word.Kind.{Kind}
 use Rattle.re_terms.specs.declared.word.Word.{Word}
 use Rattle.re_terms.specs.Cells.{cell_place}
 use Rattle.re_terms.specs.Dependencies.{PlainNode, below, expr_names, graph_of, inputs, inputs_at, is_reached, node_of}
-use Rattle.re_terms.specs.Kinds.{in_signal, sort_of, sorts_of}
+use Rattle.re_terms.specs.Kinds.{in_signal}
 use Rattle.re_terms.specs.Meaning.{meaning}
 use Rattle.re_terms.specs.Programs.{IsProgram, is_replicated, is_replicated_body}
-use Rattle.re_terms.specs.Propagation.{Step, Effect, body_effect, change_of, effect, either_of, filtered, no_effect, place_effect, put_word}
+use Rattle.re_terms.specs.Propagation.{Step, Effect, body_effect, effect, either_of, filtered, no_effect, place_effect}
 use Rattle.re_terms.specs.SignalWords.{body_word, names_environment, no_word, place_word, replicated_place, signal_word}
 use Rattle.re_terms.specs.WordOrder.{same_word}
 use Rattle.re_terms.specs.Worlds.{is_set_at, is_set_body}
@@ -27,7 +27,7 @@ use Rattle.re_terms.proofs.Ordered.{inputs-before, program-ordered}
 use Rattle.re_terms.proofs.WordMeanings.{never}
 use Rattle.re_terms.proofs.WordOrders.{same_word-refl}
 use Rattle.re_graph.specs.Kept.{is_among}
-use Rattle.re_graph.proofs.Own.{below-none, below-own, below-places, is_reached-own}
+use Rattle.re_graph.proofs.Own.{below-none, below-places, is_reached-own}
 use Rattle.re_prop.specs.Touched.{is_replicated_at}
 use Rattle.re_prop.proofs.Along.{effect-own}
 use Rattle.re_prop.proofs.Before.{signal_word-none, signal_word-own}

@@ -2,14 +2,14 @@
 use Rattle.std.proofs.Common.{◌≡◌, ◌<◌, ◌≤◌, ◌+◌, ◌==◌, ◌⊎◌, inl, inr, ℕ, zero, suc, Bool, true, false, ◌&&◌, ◌||◌, List, [], ◌∷◌, length, get_or, refl, sym, ap, subst, ◌∙◌, arith}
 use Rattle.std.specs.Prelude.{nat_le, nat_lt, not}
 use Rattle.std.specs.List.{All, list_any}
-use Rattle.std.proofs.lemmas.Bool.{cases_eq, eq-eqb, eqb-true, ne_eqb, lt-ltb, le-ltb, le-leb, ltb-true, ltb-false, leb-true, leb-false}
+use Rattle.std.proofs.lemmas.Bool.{cases_eq, eq-eqb, ne_eqb, lt-ltb, le-ltb, le-leb, ltb-true, ltb-false, leb-true, leb-false}
 use Rattle.std.proofs.Math.Bool.{or_assoc}
 use Rattle.std.proofs.lemmas.List.Elements.{All-nil, All-cons, All-head, All-tail, All-weaker}
 use Rattle.std.proofs.lemmas.List.Folds.{list_any_none}
 use Rattle.re_terms.specs.Dependencies.{PlainNode, inputs_at, IsOrdered, is_reached}
 use Rattle.re_graph.specs.Kept.{is_among}
 use Rattle.re_graph.proofs.Lists.{list_any_same, list_any-or}
-use Rattle.re_graph.proofs.Own.{inputs_at-none, is_reached-own, is_reached-none}
+use Rattle.re_graph.proofs.Own.{inputs_at-none, is_reached-own}
 use Rattle.re_levels.specs.Places.{IsRanking}
 use Rattle.re_levels.specs.Ranks.{TakesLowest, has_rank}
 use Rattle.re_levels.specs.declared.ranks.Ranks.{Ranks as Set}

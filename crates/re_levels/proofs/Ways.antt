@@ -1,6 +1,6 @@
 -- The way along what an entry reaches: its start, one step, and its end.
-use Rattle.std.proofs.Common.{◌≡◌, ◌<◌, ◌≤◌, ◌+◌, ◌==◌, ◌⊎◌, inl, inr, ℕ, Bool, true, false, ◌&&◌, ◌||◌, cond, List, [], ◌∷◌, ◌++◌, length, get_or, refl, sym, ap, subst, ◌∙◌, arith}
-use Rattle.std.specs.Prelude.{Option, None, Some, count_by, find, if◌then◌else◌, nat_le, nat_lt, slice_get}
+use Rattle.std.proofs.Common.{◌≡◌, ◌<◌, ◌≤◌, ◌+◌, ◌==◌, ◌⊎◌, inl, inr, ℕ, Bool, true, false, ◌&&◌, ◌||◌, cond, List, [], ◌∷◌, ◌++◌, length, get_or, refl, sym, ap, ◌∙◌, arith}
+use Rattle.std.specs.Prelude.{None, Some, count_by, find, if◌then◌else◌, nat_le, nat_lt, slice_get}
 use Rattle.std.specs.List.{All, list_any, range_with_len}
 use Rattle.std.specs.Option.{option_map_or}
 use Rattle.std.proofs.lemmas.Bool.{cases_eq, eq-eqb, ne_eqb, lt-ltb, le-ltb, le-leb, ltb-true, ltb-false}
@@ -9,7 +9,7 @@ use Rattle.std.proofs.lemmas.List.Elements.{All-weaker}
 use Rattle.std.proofs.lemmas.List.Folds.{list_any_none}
 use Rattle.re_terms.specs.declared.program.Decl.{Decl}
 use Rattle.re_terms.specs.declared.program.Program.{Program}
-use Rattle.re_terms.specs.Dependencies.{IsOrdered, PlainNode, graph_of, inputs_at, is_reached, reach}
+use Rattle.re_terms.specs.Dependencies.{IsOrdered, PlainNode, graph_of, inputs_at, is_reached}
 use Rattle.re_terms.specs.Listed.{Listed}
 use Rattle.re_terms.specs.Programs.{IsProgram}
 use Rattle.re_terms.proofs.Ordered.{program-ordered}
@@ -125,9 +125,9 @@ module _ (p : Program) (program : IsProgram p) (s : Sight) (order ranks : List �
   pub once_most : (next : ℕ) → count_by (is_counted p s ranks next) (range_with_len 0 (length graph)) ≤ expressions_reached p s.touched
   once_most next =
       let less = count-less (is_counted p s ranks next) (λ id. R id && has_expression_at p.decls.items id) (range_with_len 0 (length graph)) (λ id. one_less (is_counted p s ranks next id) (R id && has_expression_at p.decls.items id)
-          (λ h. let a = and_first (nat_lt (rank id) next && R id) (has_expression_at p.decls.items id) h in
-                let b = and_second (nat_lt (rank id) next && R id) (has_expression_at p.decls.items id) h in
-                both_true (R id) (has_expression_at p.decls.items id) (and_second (nat_lt (rank id) next) (R id) a) b)) in
+      (λ h. let a = and_first (nat_lt (rank id) next && R id) (has_expression_at p.decls.items id) h in
+      let b = and_second (nat_lt (rank id) next && R id) (has_expression_at p.decls.items id) h in
+      both_true (R id) (has_expression_at p.decls.items id) (and_second (nat_lt (rank id) next) (R id) a) b)) in
       let all = count-filter (has_expression_at p.decls.items) R (range_with_len 0 (length graph)) in
       omega (arith, less, all)
 
@@ -201,7 +201,7 @@ module _ (p : Program) (program : IsProgram p) (s : Sight) (order ranks : List �
           is_seen : f ≡ seen_one p s (at k)
           is_seen =
               let same : effect_of f ≡ seen p s (at k) = made ∙ body_is p program s order ranks ranking found next k walking.found_all from_next (at k) own_rank own_reached
-                  (none_between graph s.touched order ranks ordered ranking dirty next walking.due left k takes) (taken_more graph s.touched order ranks ordered ranking dirty next walking.due left k takes) d here in
+              (none_between graph s.touched order ranks ordered ranking dirty next walking.due left k takes) (taken_more graph s.touched order ranks ordered ranking dirty next walking.due left k takes) d here in
               λ i. record { id = own i; word = (same i).word; value = (same i).occurrence }
 
           -- one step

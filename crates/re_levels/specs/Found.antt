@@ -1,6 +1,6 @@
 -- What was found of declarations.
 -- Read against: where 2 was found to have the word 5, and 3 has the word 7 before the entry, 2 has 5 and 3 has 7.
-use Rattle.std.specs.Prelude.{ℕ, ◌==◌, ◌||◌, Bool, true, false, List, Option, None, Some, count_by, find, slice_get}
+use Rattle.std.specs.Prelude.{ℕ, ◌==◌, Bool, true, false, List, count_by, find, slice_get}
 use Rattle.std.specs.Option.{option_map_or}
 use Rattle.re_terms.specs.declared.program.Body.{Body}
 use Rattle.re_terms.specs.declared.program.Body.TheVariants as body

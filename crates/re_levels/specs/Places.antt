@@ -1,6 +1,6 @@
 -- Places of declarations in the order by level, both ways, and who names whom.
 -- Read against: `var x: int = 1; signal p = x + 1; signal q = p + x; signal r = x;` as declarations 0 to 3 has the order 0, 1, 3, 2 and the ranks 0, 1, 3, 2; the readers of 0 are 1, 2 and 3, that of 1 is 2.
-use Rattle.std.specs.Prelude.{ℕ, ◌≡◌, ◌<◌, Bool, true, List, length, slice_index}
+use Rattle.std.specs.Prelude.{ℕ, ◌≡◌, ◌<◌, true, List, length, slice_index}
 use Rattle.re_terms.specs.Dependencies.{PlainNode, inputs_at}
 use Rattle.re_terms.specs.Listed.{Listed}
 use Rattle.re_graph.specs.Kept.{is_among, list_at}

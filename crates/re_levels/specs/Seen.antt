@@ -1,17 +1,15 @@
 -- What an entry does along the declarations that it reaches, as it is seen through two environments.
 -- Read against: of `var x: int = 1; var y: int = 7; signal s = x + y; signal t = y;` a turn that sets x to 5 and touches it alone reaches x and s;
 -- where the first environment tells 1, 7, 8, 7 of them, x has 5 after it, s has 12, and y and t keep 7 without being looked at.
-use Rattle.std.specs.Prelude.{ℕ, Bool, true, false, List, Option, None, Some, option_map, option_and_then, unwrap_or, if◌then◌else◌, length, slice_get}
+use Rattle.std.specs.Prelude.{ℕ, List, None, Some, option_map, option_and_then, unwrap_or, if◌then◌else◌, length, slice_get}
 use Rattle.std.specs.Option.{option_map_or}
-use Rattle.re_terms.specs.declared.word.Word.{Word}
 use Rattle.re_terms.specs.declared.entry.Put.{Put}
 use Rattle.re_terms.specs.declared.entry.Entry.{Entry}
 use Rattle.re_terms.specs.declared.program.Body.{Body}
 use Rattle.re_terms.specs.declared.program.Body.TheVariants as body
-use Rattle.re_terms.specs.declared.program.Decl.{Decl}
 use Rattle.re_terms.specs.declared.program.Program.{Program}
 use Rattle.re_terms.specs.Dependencies.{below, graph_of, is_reached}
-use Rattle.re_terms.specs.Meaning.{Environment, meaning}
+use Rattle.re_terms.specs.Meaning.{meaning}
 use Rattle.re_terms.specs.Propagation.{Effect, change_of, either_of, filtered, fires_of, no_effect, occurs, put_word, sets_of, word_effect}
 use Rattle.re_eval.specs.Told.{Told, environment}
 

@@ -243,7 +243,10 @@ impl<'a, O: Env, N: Env> Walk<'a, O, N> {
     {
         match body {
             Body::Var { .. } => {
-                with_word(id, put_word(sets(self.entry), id).unwrap_or(self.old.word(id)))
+                with_word(
+                    id,
+                    put_word(sets(self.entry), id).unwrap_or(self.old.word(id)),
+                )
             }
             Body::Signal { expr, .. } => {
                 with_word(id, self.evaluate(expr, found, None, None, steps, evaluated))

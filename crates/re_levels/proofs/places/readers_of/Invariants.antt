@@ -1,5 +1,5 @@
 -- The declarations that were passed stand among the readers of their inputs.
-use Rattle.std.proofs.Common.{◌≡◌, ◌<◌, ◌≤◌, ◌&&◌, ℕ, false, length}
+use Rattle.std.proofs.Common.{◌≡◌, ◌&&◌, ℕ, false, length}
 use Rattle.std.specs.Prelude.{nat_lt}
 use Rattle.re_terms.specs.Dependencies.{inputs_at}
 use Rattle.re_graph.specs.Kept.{is_among, list_at}

@@ -1,4 +1,4 @@
-use Rattle.std.proofs.Common.{◌≡◌, ◌<◌, ◌≤◌, ◌+◌, ◌-◌, ◌++◌, ◌∷◌, [], ◌||◌, ◌==◌, ℕ, Bool, false, List, length, get_or, refl, sym, ap, subst, ◌∙◌, arith}
+use Rattle.std.proofs.Common.{◌≡◌, ◌<◌, ◌+◌, ◌-◌, [], ◌||◌, ◌==◌, ℕ, List, length, get_or, sym, ap, subst, ◌∙◌, arith}
 use Rattle.std.specs.Prelude.{Some, slice_get}
 use Rattle.std.specs.List.{list_any}
 use Rattle.std.proofs.lemmas.List.{get_or_default, length-map, length_push}
@@ -21,10 +21,10 @@ walking-init g c =
     let order = c.args.places.now.order.items in
     let ranks = c.args.places.now.ranks.items in
     let marked : (r : ℕ) → has_rank c.mark.new.dirty r ≡ list_any (λ x. get_or ranks x 0 == r) c.args.walk.now.touched.now.items = λ r.
-        c.mark.ensures r
-        ∙ ap (λ b. b || list_any (λ x. get_or c.deref.result.now x 0 == r) c.as_slice.result.now) (c.new-dirty.ensures r)
-        ∙ ap (λ (xs : List ℕ). list_any (λ x. get_or xs x 0 == r) c.as_slice.result.now) c.deref.ensures.value
-        ∙ ap (λ (xs : List ℕ). list_any (λ x. get_or ranks x 0 == r) xs) c.as_slice.ensures in
+    c.mark.ensures r
+    ∙ ap (λ b. b || list_any (λ x. get_or c.deref.result.now x 0 == r) c.as_slice.result.now) (c.new-dirty.ensures r)
+    ∙ ap (λ (xs : List ℕ). list_any (λ x. get_or xs x 0 == r) c.as_slice.result.now) c.deref.ensures.value
+    ∙ ap (λ (xs : List ℕ). list_any (λ x. get_or ranks x 0 == r) xs) c.as_slice.ensures in
     let start = walk_start p c.requires.program s order ranks c.requires.ranking c.mark.new.dirty marked c.requires.touched in
     let none = c.requires.none in
     (omega (arith, none), (0, subst (λ (e : ℕ). IsWalking p s order ranks c.mark.new.dirty c.new-found.result.items e 0) (sym none) (subst (λ (found : List One). IsWalking p s order ranks c.mark.new.dirty found 0 0) (sym c.new-found.ensures.items) start)))
@@ -134,15 +134,15 @@ walking-preserved g c =
     let list : c.as_slice-readers.result.now ≡ list_at readers id = c.as_slice-readers.ensures ∙ ap (λ (l : Listed ℕ). l.items) item in
     let own : c.effect-one.result.id ≡ get_or order k 0 = c.effect-one.ensures.id ∙ same in
     let made : effect_of c.effect-one.result ≡ body_seen s (get_or order k 0) d.body (effect_among s.old c.walking.found.items) =
-        c.effect-one.ensures.effect
-        ∙ ap (λ (x : ℕ). body_seen s x d.body (effect_among s.old c.deref-in-Some.result.now)) same
-        ∙ ap (λ (xs : List One). body_seen s (get_or order k 0) d.body (effect_among s.old xs)) c.deref-in-Some.ensures.value in
+    c.effect-one.ensures.effect
+    ∙ ap (λ (x : ℕ). body_seen s x d.body (effect_among s.old c.deref-in-Some.result.now)) same
+    ∙ ap (λ (xs : List One). body_seen s (get_or order k 0) d.body (effect_among s.old xs)) c.deref-in-Some.ensures.value in
     let marked : (r : ℕ) → has_rank c.mark-in-Some.new.dirty r ≡ (has_rank c.take_lowest.new.self r || list_any (λ x. get_or ranks x 0 == r) (list_at readers id)) = λ r.
-        c.mark-in-Some.ensures r
-        ∙ ap (λ (xs : List ℕ). has_rank c.take_lowest.new.self r || list_any (λ x. get_or xs x 0 == r) c.as_slice-readers.result.now) c.deref-in-Some-2.ensures.value
-        ∙ ap (λ (xs : List ℕ). has_rank c.take_lowest.new.self r || list_any (λ x. get_or ranks x 0 == r) xs) list in
+    c.mark-in-Some.ensures r
+    ∙ ap (λ (xs : List ℕ). has_rank c.take_lowest.new.self r || list_any (λ x. get_or xs x 0 == r) c.as_slice-readers.result.now) c.deref-in-Some-2.ensures.value
+    ∙ ap (λ (xs : List ℕ). has_rank c.take_lowest.new.self r || list_any (λ x. get_or ranks x 0 == r) xs) list in
     let links : (other : ℕ) → is_among (list_at readers id) other ≡ is_among (inputs_at (graph_of p.decls.items) other) (get_or order k 0) = λ other.
-        c.requires.readers.links id other ∙ ap (λ (x : ℕ). is_among (inputs_at (graph_of p.decls.items) other) x) same in
+    c.requires.readers.links id other ∙ ap (λ (x : ℕ). is_among (inputs_at (graph_of p.decls.items) other) x) same in
     let step = walk_step p c.requires.program s order ranks c.requires.ranking c.walking.dirty c.walking.found.items c.walking.evaluated c.walking.invariant.1.0 c.walking.invariant.1.1 c.take_lowest.new.self k c.in-Some.ensures.taken d here c.effect-one.new.evaluated c.effect-one.ensures.most c.effect-one.result own made c.mark-in-Some.new.dirty (list_at readers id) marked links in
     let counted = c.effect-one.ensures.steps in
     let before = c.walking.invariant.0 in

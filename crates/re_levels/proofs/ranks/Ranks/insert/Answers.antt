@@ -1,4 +1,4 @@
-use Rattle.std.proofs.Common.{◌<◌, ◌/◌, length, arith}
+use Rattle.std.proofs.Common.{arith}
 use Rattle.re_levels.proofs.RankBits.{has_bit-put}
 use Rattle.re_levels.proofs.ranks.Ranks.insert.Goals as goal
 

@@ -1,4 +1,4 @@
-use Rattle.std.proofs.Common.{◌≡◌, ◌<◌, ◌^◌, ℕ, length, get_or, refl, sym, ap, arith}
+use Rattle.std.proofs.Common.{◌≡◌, ◌<◌, ◌^◌, length, get_or, refl, sym, ap, arith}
 use Rattle.re_levels.proofs.RankBits.{takes_lowest}
 use Rattle.re_levels.proofs.ranks.Ranks.take_lowest.Goals as goal
 
