@@ -1,5 +1,5 @@
-use Rattle.std.proofs.Common.{◌≡◌, ◌<◌, ◌+◌, ◌-◌, [], ◌||◌, ◌==◌, ℕ, List, length, get_or, sym, ap, subst, ◌∙◌, arith}
-use Rattle.std.specs.Prelude.{Some, slice_get}
+use Rattle.std.proofs.Common.{Bool, ◌≡◌, ◌<◌, ◌+◌, ◌-◌, [], ◌||◌, ◌==◌, ℕ, List, length, get_or, sym, ap, subst, ◌∙◌, arith}
+use Rattle.std.specs.Prelude.{None, Option, Some, if◌then◌else◌, option_map, slice_get}
 use Rattle.std.specs.List.{list_any}
 use Rattle.std.proofs.lemmas.List.{get_or_default, length-map, length_push}
 use Rattle.re_terms.specs.Dependencies.{graph_of, inputs_at, node_of}
@@ -8,9 +8,10 @@ use Rattle.re_graph.specs.Kept.{is_among, list_at}
 use Rattle.re_prop.proofs.Choosing.{item_at}
 use Rattle.re_prop.proofs.Givens.{given_of}
 use Rattle.re_levels.specs.declared.found.Found.{Found as One}
-use Rattle.re_levels.specs.Found.{effect_among, effect_of}
+use Rattle.re_levels.specs.Found.{effect_among, effect_of, seen_one}
 use Rattle.re_levels.specs.Ranks.{has_rank}
-use Rattle.re_levels.specs.Seen.{body_seen, sight_of}
+use Rattle.re_levels.specs.Seen.{Sight, body_seen, sight_of}
+use Rattle.re_levels.proofs.Seeing.{seen-effect}
 use Rattle.re_levels.proofs.Ways.{IsWalking, once_most, ranks_few, readers_low, step_declared, step_few, step_low, step_most, walk_end, walk_start, walk_step}
 use Rattle.re_levels.proofs.way.walk_reached.Goals as goal
 
@@ -165,3 +166,12 @@ returns-clause-once g c =
     let a = w.once in
     let b = once_most p c.requires.program s c.args.places.now.order.items c.args.places.now.ranks.items c.requires.ranking c.walking.invariant.1.0 in
     omega (arith, a, b)
+
+pub returns-clause-effects : goal.returns-clause-effects
+returns-clause-effects g c = λ s tells id on.
+    let p = c.args.walk.now.program.now in
+    let told : Sight = sight_of c.args.walk.now.entry.now c.args.walk.now.touched.now.items (g.O.Env.told c.args.walk.now.old.now) (g.N.Env.told c.args.walk.now.new.now) in
+    let all = returns-clause-found g c id in
+    let one : Option One = Some (seen_one p told id) in
+    ap (λ (o : Option One). option_map effect_of o) (all ∙ ap (λ (b : Bool). if b then one else None) on)
+    ∙ ap Some (seen-effect p c.requires.program c.args.walk.now.entry.now c.args.walk.now.touched.now.items (g.O.Env.told c.args.walk.now.old.now) (g.N.Env.told c.args.walk.now.new.now) s tells id on)
