@@ -1,0 +1,11 @@
+pub mod Alike
+pub mod Bodies
+pub mod Counting
+pub mod Finding
+pub mod NameSorts
+pub mod RankBits
+pub mod Ranking
+pub mod Seeing
+pub mod Unreached
+pub mod Walking
+pub mod Ways

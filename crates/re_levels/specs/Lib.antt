@@ -1,0 +1,5 @@
+pub mod Found
+pub mod Places
+pub mod Ranks
+pub mod Seen
+pub mod Telling
