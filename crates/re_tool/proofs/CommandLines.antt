@@ -45,10 +45,10 @@ plain_turn : (s : Shape) (names : Names) (word : Text) → is_option word ≡ fa
 plain_turn s names word o met =
     (λ i. or_else (other_fault s (met i) word nothing_held) (step_fault s 1 (subcommand_or_other s.rules (met i) idle 1 word nothing_held).0 (subcommand_or_other s.rules (met i) idle 1 word nothing_held).1))
     ∙ (λ i. or_else (if no_dashes word o i then [] else flag_word_fault s.rules s.args_override_self (no_long word o i) word nothing_held)
-        (step_fault s 1 (if no_dashes word o i then (nothing_held, trailing 1) else long_or_other s.rules idle word (no_long word o i) nothing_held).0
-        (if no_dashes word o i then (nothing_held, trailing 1) else long_or_other s.rules idle word (no_long word o i) nothing_held).1))
+    (step_fault s 1 (if no_dashes word o i then (nothing_held, trailing 1) else long_or_other s.rules idle word (no_long word o i) nothing_held).0
+    (if no_dashes word o i then (nothing_held, trailing 1) else long_or_other s.rules idle word (no_long word o i) nothing_held).1))
     ∙ (λ i. or_else (option_map_or (λ flags. bundle_fault s.rules s.args_override_self flags nothing_held) (no_short word o i) [])
-        (step_fault s 1 (short_or_plain s.rules idle word (no_short word o i) nothing_held).0 (short_or_plain s.rules idle word (no_short word o i) nothing_held).1))
+    (step_fault s 1 (short_or_plain s.rules idle word (no_short word o i) nothing_held).0 (short_or_plain s.rules idle word (no_short word o i) nothing_held).1))
 
 -- what faults first is the fault
 first : (k : ErrorKind) (ks a b : Kinds) → a ≡ k ∷ ks → or_else a b ≡ k ∷ ks
